@@ -1,0 +1,6 @@
+pub mod Operations
+pub mod Binary
+pub mod Codes
+pub mod Polynomials
+pub mod Iteration
+pub mod Coordinates

@@ -1,0 +1,5 @@
+pub mod Lawful
+pub mod Table
+pub mod Steps
+pub mod Runs
+pub mod Inverting
