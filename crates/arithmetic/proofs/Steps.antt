@@ -7,7 +7,8 @@ use Prim.Native.Nat.{ℕ, Fin, zero, suc, pred, _+_, _-_, _≤_, _<_}
 use native.Mathlib.Decide.{decLt}
 use native.Mathlib.Numerals.{sub-one}
 use native.Mathlib.Omega.{arith}
-use borrow.Author.Tests.{le-leb, lt-leb}
+use borrow.Author.Tests.{le-leb, le-ltb, lt-leb, lt-ltb}
+use lib.Dec.{ltb}
 use lib.ListN.{length, getD}
 use Rattle.algebra.specs.Operations.{Operations}
 use Rattle.algebra.specs.Codes.{coded}
@@ -18,7 +19,11 @@ use Rattle.algebra.proofs.Solver
 use Rattle.algebra.proofs.Convolutions
 use Rattle.algebra.proofs.Terms.{terms-beyond, tested}
 use Rattle.arithmetic.specs.Meaning.{Meaning, Lawful, Codes}
-use Rattle.arithmetic.specs.Rows.{Holds, Held, Less, polynomial-of}
+use Rattle.arithmetic.specs.Rows.{Holds, Held, less-at, polynomial-of}
+
+-- the row after is the row before, less c times the first n places of the small one, shifted by d
+abbrev pub Less : Operations ℕ → List ℕ → List ℕ → ℕ → ℕ → ℕ → List ℕ → Type 0
+Less o before small n c d after = (t : ℕ) → getD after t 0 ≡ less-at o before small n c d t
 
 -- only the coefficients below z^n count for the terms below it
 pub terms-ext : (o : Operations ℕ) (n : ℕ) (p q : ℕ → ℕ) → ((t : ℕ) → t < n → p t ≡ q t) → terms o n p ≡ terms o n q
@@ -71,10 +76,21 @@ module _ (m : Meaning) (L : Lawful m) where
         same ∙ sym (less-zero (getD before t 0) c (codes t l) code)
         ∙ ap₂ (λ (x y : ℕ). o .sum x (o .neg (o .prod c y))) (hp .inside t l) (sym none)
 
-    touched : (t : ℕ) → t < length before → d ≤ t → t - d < n → n ≤ length small → getD after t 0 ≡ less o p c d q t
+    abbrev whole : ℕ → ℕ
+    whole t = o .sum (getD before t 0) (o .neg (o .prod c (getD small (t - d) 0)))
+
+    abbrev by-tests : Bool → Bool → ℕ → ℕ
+    by-tests x y t = cond x (cond y (whole t) (getD before t 0)) (getD before t 0)
+
+    low : (t : ℕ) → t < d → getD after t 0 ≡ getD before t 0
+    low t h = taken t ∙ ap (λ x. by-tests x (ltb t (d + n)) t) (lt-leb d t h)
+
+    high : (t : ℕ) → d + n ≤ t → getD after t 0 ≡ getD before t 0
+    high t h = taken t ∙ ap₂ (λ x y. by-tests x y t) (le-leb d t (omega arith)) (le-ltb t (d + n) h)
+
+    touched : (t : ℕ) → t < length before → d ≤ t → t < d + n → n ≤ length small → getD after t 0 ≡ less o p c d q t
     touched t l above below fits =
-        let e : t - d + d ≡ t = omega arith in
-        subst (λ (x : ℕ). getD after x 0 ≡ o .sum (getD before x 0) (o .neg (o .prod c (getD small (t - d) 0)))) e (taken .inside (t - d) below)
+        taken t ∙ ap₂ (λ x y. by-tests x y t) (le-leb d t above) (lt-ltb t (d + n) below)
         ∙ ap₂ (λ (x y : ℕ). o .sum x (o .neg (o .prod c y))) (hp .inside t l)
         (hq .inside (t - d) (omega arith) ∙ sym (Convolutions.delay-past o d t q above))
 
@@ -83,10 +99,10 @@ module _ (m : Meaning) (L : Lawful m) where
     new-holds len fits past within = record { inside = λ t l. at t (omega arith) (decLt t d) (decLt t (d + n)); beyond = λ t l. within t (omega arith) }
       where
         at : (t : ℕ) → t < length before → Dec (t < d) → Dec (t < d + n) → getD after t 0 ≡ less o p c d q t
-        at t l (yes a) b = untouched t l (taken .low t a) (Convolutions.delay-before o d t q a)
-        at t l (no a) (yes b) = touched t l (omega arith) (omega arith) fits
+        at t l (yes a) b = untouched t l (low t a) (Convolutions.delay-before o d t q a)
+        at t l (no a) (yes b) = touched t l (omega arith) b fits
         at t l (no a) (no b) =
-            untouched t l (taken .high t (omega arith)) (Convolutions.delay-past o d t q (omega arith) ∙ past t (omega arith) l)
+            untouched t l (high t (omega arith)) (Convolutions.delay-past o d t q (omega arith) ∙ past t (omega arith) l)
 
   -- the pairs s in four rows, with the terms of their remainders
   module _ (s : Pairs ℕ) (b bm sm smm : List ℕ) (held : Held o s b bm sm smm) (i j : ℕ)

@@ -1,6 +1,8 @@
 -- Rows of codes as polynomials: place t holds the coefficient of z^t.
+use mathlib.Core.Bool.{cond}
 use mathlib.Core.Path.{_≡_}
 use mathlib.Core.List.{List}
+use lib.Dec.{leb, ltb}
 use lib.ListN.{length, getD}
 use Prim.Native.Nat.{ℕ, suc, _+_, _-_, _*_, _≤_, _<_}
 use Rattle.algebra.specs.Operations.{Operations}
@@ -57,11 +59,12 @@ abbrev pub NotIterated : Meaning → ℕ → ℕ → List ℕ → List ℕ → L
 NotIterated m n stop b bm sm smm e =
     ((Codes m sm → ⊥) → Refused e 3) × (Codes m sm → (Fitting n stop b bm sm smm → ⊥) × Refused e 13)
 
--- the row after is the row before, less c times the first n places of the small one, shifted by d
-pub record Less (o : Operations ℕ) (before small : List ℕ) (n c d : ℕ) (after : List ℕ) : Type 0 where
-  pub inside : (t : ℕ) → t < n → getD after (t + d) 0 ≡ o .sum (getD before (t + d) 0) (o .neg (o .prod c (getD small t 0)))
-  pub low : (t : ℕ) → t < d → getD after t 0 ≡ getD before t 0
-  pub high : (t : ℕ) → d + n ≤ t → getD after t 0 ≡ getD before t 0
+-- what stands at place t of a row after c times the first n places of another, shifted by d, were taken from it
+abbrev pub less-at : Operations ℕ → List ℕ → List ℕ → ℕ → ℕ → ℕ → ℕ → ℕ
+less-at o big small n c d t =
+    cond (leb d t)
+    (cond (ltb t (d + n)) (o .sum (getD big t 0) (o .neg (o .prod c (getD small (t - d) 0)))) (getD big t 0))
+    (getD big t 0)
 
 -- One iteration on rows, of n places for the small remainder and w for a multiplier: where they hold pairs s, whose remainders
 -- have i and j terms and whose new pair fits the rows, they hold afterwards the pairs after one iteration, whose remainders have i' and j' terms.

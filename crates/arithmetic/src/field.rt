@@ -52,13 +52,6 @@ impl BinaryField {
         Ok(BinaryField { polynomial, degree })
     }
 
-    /// The field's polynomial.
-    pub fn polynomial(&self) -> u32
-        ensures { λ r. ⌜ r ≡ now (self .entry) .polynomial ⌝ }
-    {
-        self.polynomial
-    }
-
     /// The degree of the field's polynomial.
     pub fn degree(&self) -> u32
         ensures { λ r. ⌜ r ≡ now (self .entry) .degree ⌝ }

@@ -7,7 +7,7 @@ ghost use Rattle.std.specs.Results.{Cases};
 ghost use Rattle.algebra.specs.Iteration.{begun};
 ghost use Rattle.algebra.specs.Polynomials.{nothing, power, terms as terms-of};
 ghost use Rattle.arithmetic.specs.Meaning.{Codes};
-ghost use Rattle.arithmetic.specs.Rows.{Fitting, Held, Holds, Iterated, Lengths, Less, NotIterated, Once, polynomial-of};
+ghost use Rattle.arithmetic.specs.Rows.{Fitting, Held, Holds, Iterated, Lengths, NotIterated, Once, less-at, polynomial-of};
 use crate::interface::Arithmetic;
 use crate::refusal::Refusal;
 
@@ -50,7 +50,7 @@ fn subtract<A: Arithmetic>(
     requires code { ⌜ c < A·Arithmetic .meaning (now arithmetic) .size ⌝ }
     requires big_codes { ⌜ Codes (A·Arithmetic .meaning (now arithmetic)) (now big) ⌝ }
     requires small_codes { ⌜ Codes (A·Arithmetic .meaning (now arithmetic)) (now small) ⌝ }
-    ensures after { λ _. ⌜ Less (A·Arithmetic .meaning (now (arithmetic .entry)) .codes) (now (big .entry)) (now (small .entry)) n c d (now (big .exit)) ⌝ }
+    ensures { λ _. ⌜ ((t : ℕ) → getD (now (big .exit)) t 0 ≡ less-at (A·Arithmetic .meaning (now (arithmetic .entry)) .codes) (now (big .entry)) (now (small .entry)) n c d t) ⌝ }
 {
     for i in 0..n {
         let multiple = arithmetic.product(c, small[i]).unwrap();
@@ -80,34 +80,76 @@ fn quotient<A: Arithmetic>(arithmetic: &A, a: u32, b: u32) -> u32
     arithmetic.product(a, inverse).unwrap()
 }
 
-/// One iteration on the pairs in the rows. `i` and `j` are the terms of the big and the small remainder; so are the answers.
+/// Where an iteration stands: how many iterations were made, and the terms of the big and the small remainder.
+#[derive(Clone, Copy)]
+struct Progress {
+    count: u64,
+    big: usize,
+    small: usize,
+}
+
+impl Progress {
+    /// Whether the degree of the small remainder exceeds `stop`.
+    fn exceeds(self, stop: u32) -> bool
+        ensures { λ r. ⌜ When r (stop + 1 < self .small) (self .small ≤ stop + 1) ⌝ }
+    {
+        self.small > stop as usize + 1
+    }
+
+    /// After one iteration more, whose new remainder has `new` terms: it takes the place of the big one, unless its degree is
+    /// below the small one's; then the small one becomes the big one, and the new one the small one.
+    fn advanced(self, new: usize) -> Progress
+        requires { ⌜ self .count < 2 ^ 34 ⌝ }
+        ensures count { λ r. ⌜ r .count ≡ self .count + 1 ⌝ }
+        ensures replaced { λ r. ⌜ (self .small ≤ new → (r .big ≡ new) × (r .small ≡ self .small)) ⌝ }
+        ensures exchanged { λ r. ⌜ (new < self .small → (r .big ≡ self .small) × (r .small ≡ new)) ⌝ }
+    {
+        let count = self.count + 1;
+        if new >= self.small {
+            Progress {
+                count,
+                big: new,
+                small: self.small,
+            }
+        } else {
+            Progress {
+                count,
+                big: self.small,
+                small: new,
+            }
+        }
+    }
+}
+
+/// One iteration on the pairs in the rows.
 fn iterate_once<A: Arithmetic>(
     arithmetic: &A,
     big: &mut [u32],
     big_multiplier: &mut [u32],
     small: &mut [u32],
     small_multiplier: &mut [u32],
-    i: usize,
-    j: usize,
-) -> (usize, usize)
+    progress: Progress,
+) -> Progress
     requires lengths { ⌜ (length (now big) ≡ length (now small) + 1) × (length (now «big_multiplier») ≡ length (now «small_multiplier»)) ⌝ }
-    requires degrees { ⌜ (0 < j) × (j ≤ i) × (i ≤ length (now big)) × (j ≤ length (now small)) × (i - j < length (now «small_multiplier»)) ⌝ }
+    requires degrees { ⌜ (0 < progress .small) × (progress .small ≤ progress .big) × (progress .big ≤ length (now big)) × (progress .small ≤ length (now small)) × (progress .big - progress .small < length (now «small_multiplier»)) × (progress .count < 2 ^ 34) ⌝ }
     requires codes { ⌜ (Codes (A·Arithmetic .meaning (now arithmetic)) (now big)) × (Codes (A·Arithmetic .meaning (now arithmetic)) (now «big_multiplier»)) × (Codes (A·Arithmetic .meaning (now arithmetic)) (now small)) × (Codes (A·Arithmetic .meaning (now arithmetic)) (now «small_multiplier»)) ⌝ }
-    requires leads { ⌜ (getD (now small) (j - 1) 0 ≡ A·Arithmetic .meaning (now arithmetic) .codes .zero → ⊥) ⌝ }
-    ensures { λ r. ⌜ Once (A·Arithmetic .meaning (now (arithmetic .entry)) .codes) (length (now (small .entry))) (length (now («small_multiplier» .entry))) i j (now (big .entry)) (now («big_multiplier» .entry)) (now (small .entry)) (now («small_multiplier» .entry)) (now (big .exit)) (now («big_multiplier» .exit)) (now (small .exit)) (now («small_multiplier» .exit)) (r .0) (r .1) ⌝ }
+    requires leads { ⌜ (getD (now small) (progress .small - 1) 0 ≡ A·Arithmetic .meaning (now arithmetic) .codes .zero → ⊥) ⌝ }
+    ensures once { λ r. ⌜ Once (A·Arithmetic .meaning (now (arithmetic .entry)) .codes) (length (now (small .entry))) (length (now («small_multiplier» .entry))) (progress .big) (progress .small) (now (big .entry)) (now («big_multiplier» .entry)) (now (small .entry)) (now («small_multiplier» .entry)) (now (big .exit)) (now («big_multiplier» .exit)) (now (small .exit)) (now («small_multiplier» .exit)) (r .big) (r .small) ⌝ }
+    ensures count { λ r. ⌜ r .count ≡ progress .count + 1 ⌝ }
 {
-    let c = quotient(arithmetic, big[i - 1], small[j - 1]);
-    let d = i - j;
-    subtract(arithmetic, big, small, j, c, d);
+    let c = quotient(arithmetic, big[progress.big - 1], small[progress.small - 1]);
+    let d = progress.big - progress.small;
+    subtract(arithmetic, big, small, progress.small, c, d);
     let places = small_multiplier.len() - d;
     subtract(arithmetic, big_multiplier, small_multiplier, places, c, d);
     let new = terms(arithmetic, big);
-    if new >= j {
-        return (new, j);
+    let next = progress.advanced(new);
+    if new >= progress.small {
+        return next;
     }
     exchange(big, small);
     exchange(big_multiplier, small_multiplier);
-    (j, new)
+    next
 }
 
 /// Writes the polynomials that the iteration from z^n starts with, but for the small remainder: z^n, 0 and 1.
@@ -147,24 +189,22 @@ fn run<A: Arithmetic>(
     requires begun { ⌜ Held (A·Arithmetic .meaning (now arithmetic) .codes) (begun (A·Arithmetic .meaning (now arithmetic) .codes) (length (now small)) (polynomial-of (now small))) (now big) (now «big_multiplier») (now small) (now «small_multiplier») ⌝ }
     ensures { λ k. ⌜ Iterated (A·Arithmetic .meaning (now (arithmetic .entry))) (length (now (small .entry))) stop (polynomial-of (now (small .entry))) k (now (big .exit)) (now («big_multiplier» .exit)) (now (small .exit)) (now («small_multiplier» .exit)) ⌝ }
 {
-    let mut i = big.len();
-    let mut j = terms(arithmetic, small);
-    let mut count = 0;
-    while j > stop as usize + 1 {
-        let (big_terms, small_terms) = iterate_once(
+    let mut progress = Progress {
+        count: 0,
+        big: big.len(),
+        small: terms(arithmetic, small),
+    };
+    while progress.exceeds(stop) {
+        progress = iterate_once(
             arithmetic,
             big,
             big_multiplier,
             small,
             small_multiplier,
-            i,
-            j,
+            progress,
         );
-        i = big_terms;
-        j = small_terms;
-        count += 1;
     }
-    count
+    progress.count
 }
 
 /// Whether rows of these lengths are those that the degrees ask for.

@@ -6,7 +6,7 @@ ghost use Rattle.std.specs.declared.option.Option.the-variants.{None, Some};
 ghost use Rattle.algebra.specs.Binary.{Degree, Factor, NoFactor, remainder as remainder-of, times};
 
 /// The degree of a polynomial; none for 0.
-pub fn degree(a: u64) -> Option<u32>
+pub(crate) fn degree(a: u64) -> Option<u32>
     ensures { λ r. ⌜ elim r [ None ↦ a ≡ 0 | Some d ↦ (d < 64) × Degree a d ] ⌝ }
 {
     if a == 0 {
@@ -17,7 +17,7 @@ pub fn degree(a: u64) -> Option<u32>
 }
 
 /// The remainder of `a` by `b`, which is not 0.
-pub fn remainder(a: u64, b: u64) -> u64
+pub(crate) fn remainder(a: u64, b: u64) -> u64
     requires { ⌜ 0 < b ⌝ }
     ensures { λ r. ⌜ r ≡ remainder-of a b ⌝ }
 {
@@ -31,7 +31,7 @@ pub fn remainder(a: u64, b: u64) -> u64
 }
 
 /// The product of two polynomials.
-pub fn product(a: u32, b: u32) -> u64
+pub(crate) fn product(a: u32, b: u32) -> u64
     ensures { λ r. ⌜ r ≡ times a b ⌝ }
 {
     let mut sum: u64 = 0;
@@ -46,7 +46,7 @@ pub fn product(a: u32, b: u32) -> u64
 /// Whether `f`, of degree `m`, has a factor of a degree from 1 to `m` - 1.
 ///
 /// The search goes degree by degree, pattern by pattern within a degree, and stops at the first that divides.
-pub fn has_factor(f: u32, m: u32) -> bool
+pub(crate) fn has_factor(f: u32, m: u32) -> bool
     requires { ⌜ m < 32 ⌝ }
     ensures { λ r. ⌜ When r ((x : ℕ) × Factor f m x) (NoFactor f m) ⌝ }
 {

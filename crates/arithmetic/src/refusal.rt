@@ -3,7 +3,7 @@ ghost use mathlib.Core.Path.{_≡_};
 ghost use Rattle.arithmetic.specs.Refusals.{number as refusal-number, place as refusal-place};
 
 /// Why a call is refused. Each refusal has a number and a place.
-#[derive(Clone, Copy, PartialEq, Eq, Debug)]
+#[derive(Clone, Copy)]
 pub enum Refusal {
     /// 1: a polynomial is 0, or its degree is outside 2 to 16.
     WrongDegree,

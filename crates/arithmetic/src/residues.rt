@@ -14,6 +14,11 @@ pub struct Bits;
 #[derive(Clone, Copy)]
 pub struct Residues;
 
+const MODULUS: u32 = 37;
+
+/// The powers of 2 are all the residues modulo 37 but 0.
+const STEP: u32 = 2;
+
 /// The inverse of each residue modulo 37; 0 stands for that of 0.
 const INVERSES: [u32; 37] = [
     0,
@@ -135,7 +140,7 @@ pub impl Arithmetic for Residues as ResiduesArithmetic {
     ghost meaning = { λ _. residues 37 2 };
 
     fn size(&self) -> u32 {
-        37
+        MODULUS
     }
 
     fn zero(&self) -> u32 {
@@ -147,23 +152,23 @@ pub impl Arithmetic for Residues as ResiduesArithmetic {
     }
 
     fn step(&self) -> u32 {
-        2
+        STEP
     }
 
     fn sum(&self, a: u32, b: u32) -> Result<u32, Refusal> {
-        sum_modulo(37, a, b)
+        sum_modulo(MODULUS, a, b)
     }
 
     fn negative(&self, a: u32) -> Result<u32, Refusal> {
-        negative_modulo(37, a)
+        negative_modulo(MODULUS, a)
     }
 
     fn product(&self, a: u32, b: u32) -> Result<u32, Refusal> {
-        product_modulo(37, a, b)
+        product_modulo(MODULUS, a, b)
     }
 
     fn inverse(&self, a: u32) -> Result<u32, Refusal> {
-        if a >= 37 {
+        if a >= MODULUS {
             return Err(Refusal::NotACode);
         }
         if a == 0 {
