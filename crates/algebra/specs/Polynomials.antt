@@ -41,3 +41,13 @@ module _ {K : Type 0} (o : Operations K) where
   abbrev pub terms : ℕ → Polynomial K → ℕ
   terms zero p = 0
   terms (suc n) p = cond (o .zero? (p n)) (terms n p) (suc n)
+
+  -- x^e
+  abbrev pub pow : K → ℕ → K
+  pow x zero = o .one
+  pow x (suc e) = o .prod x (pow x e)
+
+  -- the sum of f_i over i below n
+  abbrev pub sums : ℕ → (ℕ → K) → K
+  sums zero f = o .zero
+  sums (suc n) f = o .sum (sums n f) (f n)

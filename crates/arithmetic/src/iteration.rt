@@ -96,8 +96,15 @@ impl Progress {
         self.small > stop as usize + 1
     }
 
-    /// After one iteration more, whose new remainder has `new` terms: it takes the place of the big one, unless its degree is
-    /// below the small one's; then the small one becomes the big one, and the new one the small one.
+    /// Whether a new remainder of `new` terms takes the place of the big one: its degree is not below the small one's.
+    fn replaces(self, new: usize) -> bool
+        ensures { λ r. ⌜ When r (self .small ≤ new) (new < self .small) ⌝ }
+    {
+        new >= self.small
+    }
+
+    /// After one iteration more, whose new remainder has `new` terms: it takes the place of the big one, or else the small
+    /// one becomes the big one, and the new one the small one.
     fn advanced(self, new: usize) -> Progress
         requires { ⌜ self .count < 2 ^ 34 ⌝ }
         ensures count { λ r. ⌜ r .count ≡ self .count + 1 ⌝ }
@@ -105,7 +112,7 @@ impl Progress {
         ensures exchanged { λ r. ⌜ (new < self .small → (r .big ≡ self .small) × (r .small ≡ new)) ⌝ }
     {
         let count = self.count + 1;
-        if new >= self.small {
+        if self.replaces(new) {
             Progress {
                 count,
                 big: new,
@@ -144,7 +151,7 @@ fn iterate_once<A: Arithmetic>(
     subtract(arithmetic, big_multiplier, small_multiplier, places, c, d);
     let new = terms(arithmetic, big);
     let next = progress.advanced(new);
-    if new >= progress.small {
+    if progress.replaces(new) {
         return next;
     }
     exchange(big, small);

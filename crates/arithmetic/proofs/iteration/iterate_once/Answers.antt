@@ -4,8 +4,8 @@ use native.Mathlib.Omega.{arith}
 use Rattle.arithmetic.proofs.Steps
 use Rattle.arithmetic.proofs.iteration.iterate_once.Needs as need
 
-pub returns-then-new-progress : need.returns-then-new-progress
-returns-then-new-progress g c =
+pub returns-then-replaces : need.returns-then-replaces
+returns-then-replaces g c =
     let m = g .A·Arithmetic .meaning (c .args .arithmetic .now) in
     let L = g .A·Arithmetic·met .lawful (c .args .arithmetic .now) in
     let b = c .args .big .now in
@@ -23,8 +23,8 @@ returns-then-new-progress g c =
           (c .subtract .last .big) (c .subtract-2 .last .big) (c .subtract .kept .big) (c .pre .lengths .1) (c .subtract-2 .kept .big)
           (c .pre .codes .0) (c .pre .codes .1) (c .quotient-c .result) (i - j) (c .quotient-c .ensures .code) (c .quotient-c .ensures .value ∙ q) e
           (omega arith) (p .4) (c .subtract .ensures) (c .subtract-2 .ensures) within within-multiplier
-          (c .terms-new .result) (c .terms-new .ensures) (c .if-new-progress .taken) in
-          let a = c .advanced-next .ensures .replaced (c .if-new-progress .taken) in
+          (c .terms-new .result) (c .terms-new .ensures) (c .if-replaces .ensures tt) in
+          let a = c .advanced-next .ensures .replaced (c .if-replaces .ensures tt) in
           (h .0, a .0 ∙ h .1, a .1 ∙ h .2);
       count = c .advanced-next .ensures .count;
     }
@@ -48,11 +48,11 @@ returns g c =
           (c .subtract .last .big) (c .subtract-2 .last .big) (c .subtract .kept .big) (c .pre .lengths .1) (c .subtract-2 .kept .big)
           (c .pre .codes .0) (c .pre .codes .1) (c .quotient-c .result) (i - j) (c .quotient-c .ensures .code) (c .quotient-c .ensures .value ∙ q) e
           (omega arith) (p .4) (c .subtract .ensures) (c .subtract-2 .ensures) within within-multiplier
-          (c .terms-new .result) (c .terms-new .ensures) (c .if-new-progress .left)
+          (c .terms-new .result) (c .terms-new .ensures) (c .if-replaces .ensures tt)
           (c .exchange .last .big) (c .exchange-2 .last .big) (c .exchange .last .small) (c .exchange-2 .last .small)
           (record { first-length = c .exchange .kept .big; second-length = c .exchange .kept .small; places = c .exchange .ensures .places; rest = c .exchange .ensures .rest })
           (record { first-length = c .exchange-2 .kept .big; second-length = c .exchange-2 .kept .small; places = c .exchange-2 .ensures .places; rest = c .exchange-2 .ensures .rest }) in
-          let a = c .advanced-next .ensures .exchanged (c .if-new-progress .left) in
+          let a = c .advanced-next .ensures .exchanged (c .if-replaces .ensures tt) in
           (h .0, a .0 ∙ h .1, a .1 ∙ h .2);
       count = c .advanced-next .ensures .count;
     }
