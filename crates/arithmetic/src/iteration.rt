@@ -12,7 +12,7 @@ use crate::interface::Arithmetic;
 use crate::refusal::Refusal;
 
 /// Whether each number of a row is a code.
-fn all_codes<A: Arithmetic>(arithmetic: &A, row: &[u32]) -> bool
+pub fn all_codes<A: Arithmetic>(arithmetic: &A, row: &[u32]) -> bool
     ensures { λ r. ⌜ When r (Codes (A·Arithmetic .meaning (now (arithmetic .entry))) (now (row .entry))) (Codes (A·Arithmetic .meaning (now (arithmetic .entry))) (now (row .entry)) → ⊥) ⌝ }
 {
     for a in row {

@@ -10,6 +10,7 @@ pub use field::BinaryField;
 pub use field::BinaryFieldArithmetic;
 pub use field::Inverted;
 pub use interface::Arithmetic;
+pub use iteration::all_codes;
 pub use iteration::iterate;
 pub use refusal::Refusal;
 pub use residues::Bits;

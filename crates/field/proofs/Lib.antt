@@ -1,0 +1,4 @@
+pub mod Lines
+pub mod Openings
+pub mod Printing
+pub mod Tallies

@@ -1,0 +1,5 @@
+pub mod Queries
+pub mod Surveys
+pub mod Elements
+pub mod Answers
+pub mod Texts

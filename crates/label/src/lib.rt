@@ -1,1 +1,0 @@
-// Labels over any arithmetic.
