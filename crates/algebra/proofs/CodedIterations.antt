@@ -11,7 +11,7 @@ use Rattle.algebra.specs.Codes.{Closed, coded}
 use Rattle.algebra.specs.Polynomials.{power, delay, less, conv, terms}
 use Rattle.algebra.specs.Iteration.{Pairs, begun, placed, gap, quotient, iteration, after, left}
 
-of-cond : {A B : Type 0} (f : A → B) (b : Bool) (x y : A) → cond b (f x) (f y) ≡ f (cond b x y)
+pub of-cond : {A B : Type 0} (f : A → B) (b : Bool) (x y : A) → cond b (f x) (f y) ≡ f (cond b x y)
 of-cond f true x y = refl
 of-cond f false x y = refl
 
@@ -30,7 +30,7 @@ module _ (q : ℕ) (o : Operations ℕ) (C : Closed q o) where
   terms-down zero p = refl
   terms-down (suc n) p = ap (λ x. cond (o .zero? (p n .0)) x (suc n)) (terms-down n p)
 
-  delay-down : (d : ℕ) (p : ℕ → Fin q) (t : ℕ) → delay o d (numbers p) t ≡ delay oq d p t .0
+  pub delay-down : (d : ℕ) (p : ℕ → Fin q) (t : ℕ) → delay o d (numbers p) t ≡ delay oq d p t .0
   delay-down zero p t = refl
   delay-down (suc d) p zero = refl
   delay-down (suc d) p (suc t) = delay-down d p t

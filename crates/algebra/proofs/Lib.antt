@@ -20,3 +20,13 @@ pub mod HankelCoordinates
 pub mod Hankel
 pub mod HankelInverse
 pub mod BitConvolutions
+pub mod Powers
+pub mod Sums
+pub mod Counts
+pub mod Vandermonde
+pub mod Roots
+pub mod Values
+pub mod Generators
+pub mod Registers
+pub mod CodedSums
+pub mod CodedRegisters
