@@ -1,3 +1,4 @@
+-- What the proof of `number` leaves to be shown.
 use borrow.Author.Count.{below-more}
 use borrow.Author.Needs.{needs}
 use native.Mathlib.Omega.{arith}

@@ -1,3 +1,4 @@
+-- What the proof of `split_once` leaves to be shown.
 use borrow.Author.Needs.{needs}
 use Rattle.std.proofs.shelf.Lists.{places}
 use Rattle.text.proofs.Cuts.{cut-at}

@@ -1,3 +1,4 @@
+-- What the proof of `field::right_degree` leaves to be shown.
 use mathlib.Core.Path.{_≡_}
 use mathlib.Core.Logic.{inl, inr}
 use Prim.Native.Nat.{ℕ}

@@ -1,3 +1,4 @@
+-- What the loops of `iteration::all_codes` keep, and what falls.
 use Prim.Native.Nat.{ℕ, _<_}
 use lib.ListN.{getD}
 use Rattle.arithmetic.proofs.iteration.all_codes.Given as given

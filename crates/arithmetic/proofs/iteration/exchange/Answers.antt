@@ -1,3 +1,4 @@
+-- What the proof of `iteration::exchange` leaves to be shown.
 use borrow.Author.Needs.{needs}
 use Rattle.std.proofs.shelf.Lists.{places}
 use Rattle.arithmetic.proofs.iteration.exchange.Needs as need

@@ -1,3 +1,4 @@
+-- What the proof of `iteration::run` leaves to be shown.
 use mathlib.Core.Path.{_≡_, sym, subst}
 use Prim.Native.Nat.{ℕ, _+_}
 use native.Mathlib.Omega.{arith}

@@ -1,3 +1,4 @@
+-- What the loops of `iteration::run` keep, and what falls.
 use Prim.Native.Nat.{_+_, _*_, _≤_}
 use lib.ListN.{length}
 use Rattle.arithmetic.specs.Rows.{polynomial-of}

@@ -1,3 +1,4 @@
+-- What the loops of `iteration::subtract` keep, and what falls.
 use mathlib.Core.Path.{_≡_}
 use Prim.Native.Nat.{ℕ}
 use lib.ListN.{getD}

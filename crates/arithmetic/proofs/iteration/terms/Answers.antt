@@ -1,3 +1,4 @@
+-- What the proof of `iteration::terms` leaves to be shown.
 use mathlib.Core.Bool.{true, false, cond}
 use mathlib.Core.Path.{_≡_, refl, sym, ap, _∙_}
 use Prim.Native.Nat.{ℕ, zero, suc, _-_, _<_}

@@ -1,3 +1,4 @@
+-- What the loops of `iteration::terms` keep, and what falls.
 use mathlib.Core.Path.{_≡_}
 use lib.ListN.{length}
 use Rattle.algebra.specs.Polynomials.{terms}

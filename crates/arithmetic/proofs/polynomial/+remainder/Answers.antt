@@ -1,3 +1,4 @@
+-- What the proof of `polynomial::remainder` leaves to be shown.
 use mathlib.Core.Path.{_≡_, sym, subst}
 use Prim.Native.Nat.{ℕ, _-_, _*_, _%_, _^_, _<_}
 use native.Mathlib.Nat.{lt-of-lt-of-le}

@@ -1,3 +1,4 @@
+-- What the proof of `polynomial::degree` leaves to be shown.
 use mathlib.Core.Path.{_≡_, sym, subst}
 use Prim.Native.Nat.{ℕ, suc, _-_, _<_, _^_}
 use native.Mathlib.Omega.{arith}

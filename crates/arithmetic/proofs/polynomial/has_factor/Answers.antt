@@ -1,3 +1,4 @@
+-- What the proof of `polynomial::has_factor` leaves to be shown.
 use mathlib.Core.Bool.{false}
 use mathlib.Core.Path.{_≡_, sym, subst, _∙_}
 use Prim.Native.Nat.{ℕ, _+_, _*_, _%_, _^_, _<_}

@@ -1,3 +1,4 @@
+-- What the loops of `polynomial::has_factor` keep, and what falls.
 use mathlib.Core.Bool.{false}
 use mathlib.Core.Path.{_≡_}
 use Prim.Native.Nat.{ℕ, _+_, _^_, _<_}

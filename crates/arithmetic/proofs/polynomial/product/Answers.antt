@@ -1,3 +1,4 @@
+-- What the proof of `polynomial::product` leaves to be shown.
 use mathlib.Core.Path.{_≡_, refl, sym, ap, ap₂, _∙_}
 use Prim.Native.Nat.{ℕ, suc, _+_, _*_, _/_, _%_, _^_, _<_, _≤_}
 use native.Mathlib.Nat.{mod-lt, mod-one, mod-eq-of-lt, one-mul, add-comm}

@@ -1,3 +1,4 @@
+-- What the proof of `element::triangular` leaves to be shown.
 use borrow.Author.Needs.{needs}
 use Rattle.std.proofs.shelf.Lists.{take-at}
 use Rattle.field.proofs.element.triangular.Needs as need

@@ -1,3 +1,4 @@
+-- What the proof of `powers::differ_in` leaves to be shown.
 use mathlib.Core.Bool.{Bool, true, false}
 use mathlib.Core.List.{List}
 use mathlib.Core.Path.{_≡_, sym, _∙_}

@@ -1,3 +1,4 @@
+-- What the proof of `powers::write_powers` leaves to be shown.
 use mathlib.Core.Logic.{_≢_}
 use mathlib.Core.Path.{_≡_, ap, _∙_}
 use Prim.Native.Nat.{ℕ, _<_}

@@ -1,3 +1,4 @@
+-- What the loops of `printing::negate` keep, and what falls.
 use mathlib.Core.Path.{_≡_}
 use Prim.Native.Nat.{ℕ, _≤_, _<_}
 use lib.ListN.{getD}

@@ -1,3 +1,4 @@
+-- What the proof of `printing::write_digits` leaves to be shown.
 use mathlib.Core.List.{List}
 use mathlib.Core.Logic.{_≢_}
 use mathlib.Core.Path.{_≡_, sym, ap, _∙_}

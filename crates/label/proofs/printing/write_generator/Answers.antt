@@ -1,3 +1,4 @@
+-- What the proof of `printing::write_generator` leaves to be shown.
 use mathlib.Core.Path.{_≡_, sym, ap, subst, _∙_}
 use Prim.Native.Nat.{ℕ, suc, _+_, _-_, _<_}
 use native.Mathlib.Omega.{arith}

@@ -1,3 +1,4 @@
+-- What the loops of `scheme::number_of_doors` keep, and what falls.
 use mathlib.Core.Path.{_≡_}
 use Prim.Native.Nat.{_^_, _≤_}
 use Rattle.label.proofs.scheme.number_of_doors.Given as given

@@ -1,3 +1,4 @@
+-- What the proof of `testing::power_sum_at` leaves to be shown.
 use mathlib.Core.List.{List}
 use mathlib.Core.Path.{_≡_, sym, ap, _∙_}
 use Prim.Native.Nat.{ℕ, _+_}

@@ -1,3 +1,4 @@
+-- What the loops of `testing::power_sum_at` keep, and what falls.
 use mathlib.Core.Path.{_≡_}
 use Prim.Native.Nat.{_<_}
 use Rattle.label.proofs.Horner.{horner-row}

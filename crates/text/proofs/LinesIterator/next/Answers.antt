@@ -1,3 +1,4 @@
+-- What the proof of `LinesIterator::next` leaves to be shown.
 use mathlib.Core.Logic.{inl}
 use mathlib.Core.Path.{ap}
 use borrow.Author.Needs.{needs}

@@ -1,3 +1,4 @@
+-- What the proof of `field::BinaryField::codes` leaves to be shown.
 use native.Mathlib.Omega.{arith}
 use Rattle.std.proofs.shelf.Bits.{one-shl}
 use Rattle.arithmetic.proofs.field.BinaryField.codes.Needs as need

@@ -1,3 +1,4 @@
+-- What the proof of `field::BinaryField::coordinate` leaves to be shown.
 use mathlib.Core.Bool.{cond}
 use mathlib.Core.List.{List}
 use mathlib.Core.Path.{_≡_, sym, ap, ap₂, _∙_, subst}

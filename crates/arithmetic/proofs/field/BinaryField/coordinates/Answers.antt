@@ -1,3 +1,4 @@
+-- What the proof of `field::BinaryField::coordinates` leaves to be shown.
 use mathlib.Core.Path.{_≡_, refl, sym, ap, ap₂, _∙_}
 use mathlib.Core.List.{List, [], _∷_, _++_}
 use Prim.Native.Nat.{ℕ, _+_, _-_, _<_}

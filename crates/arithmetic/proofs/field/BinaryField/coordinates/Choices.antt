@@ -1,3 +1,4 @@
+-- What the loops of `field::BinaryField::coordinates` keep, and what falls.
 use mathlib.Core.Path.{_≡_}
 use lib.ListN.{length, take}
 use Rattle.algebra.specs.Coordinates.{coordinates}

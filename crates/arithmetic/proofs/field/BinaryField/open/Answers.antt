@@ -1,3 +1,4 @@
+-- What the proof of `field::BinaryField::open` leaves to be shown.
 use mathlib.Core.Path.{_≡_, refl, subst}
 use Prim.Native.Nat.{ℕ}
 use Rattle.algebra.specs.Binary.{Factor}

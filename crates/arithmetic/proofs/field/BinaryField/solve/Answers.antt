@@ -1,3 +1,4 @@
+-- What the proof of `field::BinaryField::solve` leaves to be shown.
 use mathlib.Core.Bool.{true}
 use mathlib.Core.Path.{_≡_, refl, sym, ap, _∙_, subst}
 use Prim.Native.Nat.{ℕ, _-_, _*_}

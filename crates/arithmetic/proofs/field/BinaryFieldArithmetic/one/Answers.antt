@@ -1,3 +1,4 @@
+-- What the proof of `field::BinaryFieldArithmetic::one` leaves to be shown.
 use mathlib.Core.Path.{refl}
 use native.Mathlib.Omega.{arith}
 use lib.Pow.{pow-mono}

@@ -1,3 +1,4 @@
+-- What the proof of `field::BinaryFieldArithmetic::sum` leaves to be shown.
 use mathlib.Core.Path.{refl}
 use native.Mathlib.Omega.{arith}
 use Prim.Native.Nat.{_^_, _<_}

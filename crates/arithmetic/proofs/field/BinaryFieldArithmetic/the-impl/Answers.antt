@@ -1,3 +1,4 @@
+-- The laws that `field::BinaryFieldArithmetic` owes.
 use Rattle.arithmetic.proofs.Lawful.{field-lawful}
 use Rattle.arithmetic.proofs.field.BinaryFieldArithmetic.the-impl.Needs as need
 

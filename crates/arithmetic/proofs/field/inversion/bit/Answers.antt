@@ -1,3 +1,4 @@
+-- What the proof of `field::inversion::bit` leaves to be shown.
 use Prim.Native.Nat.{_/_, _^_}
 use native.Mathlib.Omega.{arith}
 use lib.Bits.{and-mask}

@@ -1,3 +1,4 @@
+-- What the loops of `field::inversion::number` keep, and what falls.
 use mathlib.Core.Path.{_≡_}
 use Prim.Native.Nat.{_<_, _^_}
 use Rattle.algebra.specs.Binary.{value}

@@ -1,3 +1,4 @@
+-- What the loops of `field::inversion::weighed` keep, and what falls.
 use mathlib.Core.Path.{_≡_}
 use Prim.Native.Nat.{_+_, _*_, _≤_}
 use lib.ListN.{getD}

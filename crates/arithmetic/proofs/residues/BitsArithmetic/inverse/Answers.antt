@@ -1,3 +1,4 @@
+-- What the proof of `residues::BitsArithmetic::inverse` leaves to be shown.
 use mathlib.Core.Path.{_≡_, refl, sym, ap, _∙_}
 use Prim.Native.Nat.{ℕ}
 use native.Mathlib.Omega.{arith}

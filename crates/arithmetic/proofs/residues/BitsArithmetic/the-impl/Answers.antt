@@ -1,3 +1,4 @@
+-- The laws that `residues::BitsArithmetic` owes.
 use native.Mathlib.Omega.{arith}
 use Rattle.algebra.specs.Codes.{found}
 use Rattle.arithmetic.proofs.Lawful.{residues-lawful}

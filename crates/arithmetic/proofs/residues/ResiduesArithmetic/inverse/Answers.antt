@@ -1,3 +1,4 @@
+-- What the proof of `residues::ResiduesArithmetic::inverse` leaves to be shown.
 use mathlib.Core.Path.{_≡_, sym, subst}
 use mathlib.Core.List.{List, [], _∷_}
 use Prim.Native.Nat.{ℕ, _<_}

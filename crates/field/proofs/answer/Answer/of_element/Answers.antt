@@ -1,3 +1,4 @@
+-- What the proof of `answer::Answer::of_element` leaves to be shown.
 use mathlib.Core.Logic.{inr}
 use mathlib.Core.Path.{subst}
 use Rattle.arithmetic.specs.Answers.{NoInverse}

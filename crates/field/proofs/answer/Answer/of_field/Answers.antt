@@ -1,3 +1,4 @@
+-- What the proof of `answer::Answer::of_field` leaves to be shown.
 use mathlib.Core.Path.{subst}
 use Rattle.field.specs.Surveys.{Surveyed}
 use Rattle.field.proofs.Openings.{opens}

@@ -1,3 +1,4 @@
+-- What the proof of `element::ElementDisplay::fmt` leaves to be shown.
 use mathlib.Core.Path.{_≡_, ap}
 use mathlib.Core.List.{_++_}
 use Prim.Native.Nat.{min}

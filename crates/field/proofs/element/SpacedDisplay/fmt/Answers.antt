@@ -1,3 +1,4 @@
+-- What the proof of `element::SpacedDisplay::fmt` leaves to be shown.
 use mathlib.Core.Bool.{true}
 use mathlib.Core.List.{[], _∷_, _++_}
 use mathlib.Core.Path.{refl}

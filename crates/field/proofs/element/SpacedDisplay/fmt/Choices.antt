@@ -1,3 +1,4 @@
+-- What the loops of `element::SpacedDisplay::fmt` keep, and what falls.
 use lib.ListN.{take}
 use denote.Ref.{now}
 use Rattle.std.specs.Written.{Plain, Put}

@@ -1,3 +1,4 @@
+-- What the proof of `query::Query::parse` leaves to be shown.
 use mathlib.Core.Path.{subst}
 use borrow.Author.Needs.{needs}
 use Rattle.text.specs.Parts.{Without}

@@ -1,3 +1,4 @@
+-- What the proof of `survey::Survey::new` leaves to be shown.
 use mathlib.Core.List.{[], _∷_, _++_}
 use native.Mathlib.Omega.{arith}
 use borrow.Author.Needs.{needs}

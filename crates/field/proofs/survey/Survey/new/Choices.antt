@@ -1,3 +1,4 @@
+-- What the loops of `survey::Survey::new` keep, and what falls.
 use mathlib.Core.Path.{_≡_}
 use mathlib.Core.List.{List}
 use lib.ListN.{length}

@@ -1,3 +1,4 @@
+-- What the proof of `scheme::Scheme::lay_out` leaves to be shown.
 use Prim.Native.Nat.{_-_}
 use native.Mathlib.Omega.{arith}
 use borrow.Author.Needs.{needs}

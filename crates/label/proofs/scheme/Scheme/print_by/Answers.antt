@@ -1,3 +1,4 @@
+-- What the proof of `scheme::Scheme::print_by` leaves to be shown.
 use native.Mathlib.Omega.{arith}
 use lib.ListN.{length}
 use Rattle.label.proofs.Doors.{label-written}

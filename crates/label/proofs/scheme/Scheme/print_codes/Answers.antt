@@ -1,3 +1,4 @@
+-- What the proof of `scheme::Scheme::print_codes` leaves to be shown.
 use mathlib.Core.Path.{_≡_}
 use Prim.Native.Nat.{_^_, _<_}
 use native.Mathlib.Omega.{arith}
