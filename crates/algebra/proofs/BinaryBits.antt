@@ -1,5 +1,5 @@
 -- The bits of a number: of a sum, of a shift, and the number that has given bits.
-use mathlib.Core.Path.{_≡_, refl, sym, ap, ap₂, _∙_, subst}
+use mathlib.Core.Path.{_≡_, refl, sym, ap, _∙_, subst}
 use mathlib.Core.Logic.{_⊎_, inl, inr}
 use Prim.Native.Nat.{ℕ, zero, suc, _+_, _-_, _*_, _/_, _%_, _^_, _<_}
 use native.Mathlib.Nat.{mod-lt, mod-eq-of-lt, zero-lt-suc, pow-suc, mul-div-mul-right, lt-irrefl, add-comm, eq-zero-or-pos, zero-div}
@@ -48,19 +48,6 @@ top-bit a n h = go (bit a n) (bit-lt a n) (sym (mod-eq-of-lt h) ∙ mod-suc a n)
 
 pub degree-bit : (a n : ℕ) → Degree a n → bit a n ≡ 1
 degree-bit a n h = elim (top-bit a n (h .1)) [ inl l ↦ absurd (lt-irrefl a (omega arith)) | inr k ↦ k .0 ]
-
-value-ext : (n : ℕ) (u v : ℕ → ℕ) → ((j : ℕ) → j < n → u j ≡ v j) → value n u ≡ value n v
-value-ext zero u v h = refl
-value-ext (suc n) u v h = ap₂ (λ (x y : ℕ). x + y * 2 ^ n) (value-ext n u v (λ j l. h j (omega arith))) (h n (omega arith))
-
--- the low n bits of a number
-value-bits : (a n : ℕ) → value n (bit a) ≡ a % 2 ^ n
-value-bits a zero = omega arith
-value-bits a (suc n) = ap (λ (x : ℕ). x + bit a n * 2 ^ n) (value-bits a n) ∙ add-comm (a % 2 ^ n) (bit a n * 2 ^ n) ∙ sym (mod-suc a n)
-
-pub same-bits : (a b n : ℕ) → a < 2 ^ n → b < 2 ^ n → ((i : ℕ) → i < n → bit a i ≡ bit b i) → a ≡ b
-same-bits a b n ha hb h =
-    sym (mod-eq-of-lt ha) ∙ sym (value-bits a n) ∙ value-ext n (bit a) (bit b) h ∙ value-bits b n ∙ mod-eq-of-lt hb
 
 bit-mod : (a n j : ℕ) → j < n → bit (a % 2 ^ n) j ≡ bit a j
 bit-mod a n j l =

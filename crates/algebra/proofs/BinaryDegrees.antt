@@ -96,12 +96,6 @@ has-degree a p = go a (a-lt a)
 
 -- ---- no zero divisors, and one remainder
 
-pub times-pos : (a b : ℕ) → 0 < a → 0 < b → 0 < times a b
-times-pos a b p q =
-    let s = has-degree a p in
-    let t = has-degree b q in
-    lt-of-lt-of-le (pow-pos (s .0 + t .0)) (times-degree a (s .0) b (t .0) (s .1) (t .1) .0)
-
 -- a multiple of b below b's degree is 0
 pub small-multiple : (q b d : ℕ) → Degree b d → times q b < 2 ^ d → q ≡ 0
 small-multiple q b d h l = elim (eq-zero-or-pos q) [ inl e ↦ e | inr p ↦ go p ]

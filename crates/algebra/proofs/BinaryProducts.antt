@@ -126,11 +126,6 @@ times-one-r a = times-step a 1 ∙ ap (λ (x : ℕ). bitXor a (x * 2)) (times-ze
 by-digit : (a : ℕ) → bitXor (a / 2 * 2) (a % 2) ≡ a
 by-digit a = xor-shifted (a / 2) 1 (a % 2) (mod-lt a two-pos) ∙ div-add-mod' a 2
 
-times-digit : (d b : ℕ) → d < 2 → times b d ≡ pick d b
-times-digit zero b h = times-zero-r b
-times-digit (suc zero) b h = times-one-r b
-times-digit (suc (suc d)) b h = not-digit h
-
 pub times-one-l : (b : ℕ) → times 1 b ≡ b
 times-one-l =
     bin-ind (λ (b : ℕ). times 1 b ≡ b) (times-zero-r 1)

@@ -75,11 +75,6 @@ module _ (q : ℕ) (o : Operations ℕ) (C : Closed q o) where
       below (register o g r d p t) (register oq (g, l) r (λ i. as-code (d i)) p t)
       (register-down (g, l) r k d (λ i. as-code (d i)) (λ i c. as-code-is (d i) (h i c)) p b t)
 
-  pub horner-lt : (d : ℕ → ℕ) (x n : ℕ) → x < q → ((p : ℕ) → p < n → d p < q) → horner o d x n < q
-  horner-lt d x n l h =
-      below (horner o d x n) (horner oq (λ i. as-code (d i)) (x, l) n)
-      (horner-down n d (λ i. as-code (d i)) (x, l) (λ p c. as-code-is (d p) (h p c)))
-
   module _ (R : Ring oq) where
     -- Horner's rule at g^j is a power sum
     pub horner-sums : (g j n : ℕ) (d : ℕ → ℕ) → g < q → ((p : ℕ) → p < n → d p < q) → horner o d (pow o g j) n ≡ sums o n (λ i. o .prod (d (n - 1 - i)) (pow o g (i * j)))

@@ -13,10 +13,6 @@ pub count-same : (n : ℕ) (f g : ℕ → Bool) → ((i : ℕ) → i < n → f i
 count-same zero f g h = refl
 count-same (suc n) f g h = ap₂ (λ c b. c + one b) (count-same n f g (λ i l. h i (omega arith))) (h n (omega arith))
 
-pub count-all : (n : ℕ) → count n (λ i. true) ≡ n
-count-all zero = refl
-count-all (suc n) = omega (arith, count-all n)
-
 -- the first apart
 count-first : (n : ℕ) (f : ℕ → Bool) → count (suc n) f ≡ one (f 0) + count n (λ i. f (suc i))
 count-first zero f = omega arith

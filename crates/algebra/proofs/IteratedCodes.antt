@@ -9,7 +9,7 @@ use Rattle.algebra.specs.Codes.{Closed, coded}
 use Rattle.algebra.specs.Polynomials.{less, conv, Within, terms}
 use Rattle.algebra.specs.Iteration.{Pairs, gap, quotient, after, left, Iterations}
 use Rattle.algebra.proofs.Terms.{tested}
-use Rattle.algebra.proofs.Invariant.{Stands, small-multiplier-within}
+use Rattle.algebra.proofs.Invariant.{Stands}
 use Rattle.algebra.proofs.OneIteration
 use Rattle.algebra.proofs.Iterated
 use Rattle.algebra.proofs.CodedIterations.{numbers, down}
@@ -22,16 +22,10 @@ pub record Kept (q : ℕ) (o : Operations ℕ) (n stop : ℕ) (s : Pairs ℕ) : 
   pub big-multiplier-codes : (t : ℕ) → s .big-multiplier t < q
   pub small-multiplier-codes : (t : ℕ) → s .small-multiplier t < q
   pub ordered : terms o (suc n) (s .small) ≤ terms o (suc n) (s .big)
-  pub big-within : Within o (suc n) (s .big)
   pub small-within : Within o n (s .small)
-  pub big-multiplier-within : Within o (suc (n - 1 - stop)) (s .big-multiplier)
-  pub small-multiplier-within : Within o (suc (n - 1 - stop)) (s .small-multiplier)
 
 -- what the next iteration makes of them
 pub record Makes (q : ℕ) (o : Operations ℕ) (n stop : ℕ) (s : Pairs ℕ) : Type 0 where
-  pub quotient-code : quotient o n s < q
-  pub new-codes : (t : ℕ) → less o (s .big) (quotient o n s) (gap o n s) (s .small) t < q
-  pub new-multiplier-codes : (t : ℕ) → less o (s .big-multiplier) (quotient o n s) (gap o n s) (s .small-multiplier) t < q
   pub new-within : Within o (pred (terms o (suc n) (s .big))) (less o (s .big) (quotient o n s) (gap o n s) (s .small))
   pub new-multiplier-within : Within o (suc (n - 1 - stop)) (less o (s .big-multiplier) (quotient o n s) (gap o n s) (s .small-multiplier))
 
@@ -84,13 +78,10 @@ module _
           big-multiplier-codes = λ t. s .big-multiplier t .1;
           small-multiplier-codes = λ t. s .small-multiplier t .1;
           ordered = omega (arith, CodedIterations.terms-down q o C (suc n) (s .big), CodedIterations.terms-down q o C (suc n) (s .small), h .ordered);
-          big-within = λ t g. ap (λ x. x .0) (h .big-within t g);
           small-within = λ t g. ap (λ x. x .0) (h .small-within t g);
-          big-multiplier-within = λ t g. ap (λ x. x .0) (h .big-multiplier-within t g);
-          small-multiplier-within = λ t g. ap (λ x. x .0) (small-multiplier-within h t g);
         }
 
-    -- while they go on, the next iteration gives codes again, and its leading terms cancel
+    -- while they go on, the leading terms cancel in the next iteration, and its multiplier keeps its width
     pub makes : (k : ℕ) → ((i : ℕ) → i < k → suc stop < left o n r i) → suc stop < left o n r k → Makes q o n stop (after o n r k)
     unfolding left
     makes k b more = rw (same k) go
@@ -107,14 +98,8 @@ module _
         is : (x y : ℕ → Fin q) (t : ℕ) → less o (numbers x) (quotient o n (down s)) (gap o n (down s)) (numbers y) t ≡ made x y t .0
         is x y t = ap (λ p. p t) (CodedIterations.less-down q o C n s x y)
 
-        code : (x y : ℕ → Fin q) (t : ℕ) → less o (numbers x) (quotient o n (down s)) (gap o n (down s)) (numbers y) t < q
-        code x y t = rw (is x y t) (made x y t .1)
-
         go : Makes q o n stop (down s)
         go = record {
-          quotient-code = C .prod-in _ _ (s .big _ .1) (C .inv-in _ (s .small _ .1));
-          new-codes = code (s .big) (s .small);
-          new-multiplier-codes = code (s .big-multiplier) (s .small-multiplier);
           new-within = λ t g.
               is (s .big) (s .small) t
               ∙ ap (λ x. x .0) (OneIteration.new-within oq R F Zq n r' stop k s (stands k b) m t (omega (arith, CodedIterations.terms-down q o C (suc n) (s .big))));

@@ -24,7 +24,6 @@ pub mod Powers
 pub mod Sums
 pub mod Counts
 pub mod Vandermonde
-pub mod Roots
 pub mod Values
 pub mod Generators
 pub mod Registers

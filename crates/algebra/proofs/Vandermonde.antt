@@ -13,7 +13,6 @@ use Rattle.algebra.specs.Counts.{count}
 use Rattle.algebra.proofs.Rings
 use Rattle.algebra.proofs.Powers
 use Rattle.algebra.proofs.Sums
-use Rattle.algebra.proofs.Counts.{count-all}
 use Rattle.algebra.proofs.Solver.{reify}
 use Rattle.algebra.proofs.Solver
 
@@ -91,12 +90,3 @@ module _ {K : Type 0} (o : Operations K) (R : Ring o) (F : Field o) (x : ℕ →
           j g)
           (Rings.sub-ne o R (x j) (x n) (d j n g (omega arith))) in
           both others (last (ap (moment (suc n) a) (sym (add-zero start)) ∙ eqs 0 (omega arith)) others) i (eq-or-lt-of-le (le-of-suc-le-suc l))
-
-  -- as many equations as terms
-  pub vandermonde :
-      (n : ℕ) (a : ℕ → K) (start : ℕ)
-      → ((i j : ℕ) → i < j → j < n → ¬ (x i ≡ x j))
-      → ((i : ℕ) → i < n → ¬ (x i ≡ 0#))
-      → ((t : ℕ) → t < n → sums o n (λ i. a i · pow o (x i) (start + t)) ≡ 0#)
-      → (i : ℕ) → i < n → a i ≡ 0#
-  vandermonde n a start d nz = supported n n a (λ i. true) start d nz (λ i l e. absurd (both-ways true e refl)) (le-of-eq (count-all n))

@@ -26,9 +26,6 @@ module _ (m : Meaning) (C : Closed (m .size) (m .codes)) where
     | no l ↦ subst (λ x. x < m .size) (sym (getD-past row p 0 (omega arith))) (omega (arith, C .zero-in))
   ]
 
-  pub horner-in : (x : ℕ) (row : List ℕ) (p : ℕ) → x < m .size → Codes m row → horner-row (m .codes) x row p < m .size
-  horner-in x row p l h = CodedRegisters.horner-lt (m .size) (m .codes) C (λ i. getD row i 0) x p l (λ i k. code-at row h i)
-
   pub horner-is : Ring (coded (m .size) (m .codes) C) → m .step < m .size
       → (n j : ℕ) (row : List ℕ) → Codes m row → horner-row (m .codes) (pow (m .codes) (m .step) j) row n ≡ power-sum m n row j
   horner-is R S n j row h =
