@@ -146,6 +146,15 @@ class Field:
             self._fill_tables()
         return self._powers[-self._exponents[a] % (self.q - 1)]
 
+    def product_by_table(self, a: int, b: int) -> int:
+        """The product of two codes, from the table of powers."""
+        if a == 0 or b == 0:
+            return 0
+        if not self._powers:
+            self._fill_tables()
+        exponents = self._exponents
+        return self._powers[(exponents[a] + exponents[b]) % (self.q - 1)]
+
     def top_coefficients(self, a: int, length: int) -> list[int]:
         """The coefficient of z^(m-1) in a z^j mod F, for j below `length`."""
         bits = []

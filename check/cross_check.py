@@ -11,11 +11,12 @@ from __future__ import annotations
 import argparse
 import sys
 from pathlib import Path
-from typing import Callable, NamedTuple
+from typing import Callable, NamedTuple, Optional
 
 sys.dont_write_bytecode = True
 
 import field_program  # noqa: E402
+import labels_program  # noqa: E402
 import selftest  # noqa: E402
 
 ROOT = Path(__file__).resolve().parent.parent
@@ -23,9 +24,13 @@ DEFAULT_SEED = 1
 
 
 class Program(NamedTuple):
-    """What the checker knows of a program."""
+    """What the checker knows of a program.
 
-    answer: Callable[[bytes], str]
+    `start` begins a run.  It gives what answers the lines that are not empty,
+    one after the other: a line of output, or None where nothing is printed.
+    """
+
+    start: Callable[[], Callable[[bytes], Optional[str]]]
     make: Callable[[int], bytes]
 
 
@@ -38,17 +43,20 @@ class Answered(NamedTuple):
 
 
 PROGRAMS: dict[str, Program] = {
-    "field": Program(field_program.answer, field_program.make),
+    "field": Program(lambda: field_program.answer, field_program.make),
+    "labels": Program(labels_program.start, labels_program.make),
 }
 
 
 def answer_all(program: Program, stdin: bytes) -> list[Answered]:
-    """The answers to all lines that are not empty."""
-    return [
-        Answered(number, line, program.answer(line).encode("ascii"))
-        for number, line in enumerate(stdin.split(b"\n"), start=1)
-        if line
-    ]
+    """The answers to all lines that have one."""
+    answer = program.start()
+    answers = []
+    for number, line in enumerate(stdin.split(b"\n"), start=1):
+        text = answer(line) if line else None
+        if text is not None:
+            answers.append(Answered(number, line, text.encode("ascii")))
+    return answers
 
 
 def as_output(answers: list[Answered]) -> bytes:
@@ -115,7 +123,7 @@ def run_selftest() -> int:
     except AssertionError as error:
         print(f"selftest: does not hold: {error}")
         return 1
-    print(f"selftest: {checked} codes hold")
+    print(f"selftest: {checked.codes} codes and {checked.labels} labels hold")
     return 0
 
 

@@ -1,0 +1,5 @@
+pub mod Queries
+pub mod Rows
+pub mod RowTexts
+pub mod Answers
+pub mod Texts
