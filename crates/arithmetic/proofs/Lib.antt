@@ -3,3 +3,4 @@ pub mod Table
 pub mod Steps
 pub mod Runs
 pub mod Inverting
+pub mod Openings

@@ -1,4 +1,1 @@
-pub mod Lines
-pub mod Openings
-pub mod Printing
 pub mod Tallies

@@ -2,20 +2,15 @@
 use mathlib.Core.Path.{_≡_}
 use mathlib.Core.Logic.{_⊎_}
 use Prim.Native.Nat.{ℕ}
-use Rattle.algebra.specs.Binary.{NoFactor}
 use Rattle.arithmetic.specs.Answers.{NoInverse}
 use Rattle.arithmetic.specs.Meaning.{field-of}
-use Rattle.arithmetic.specs.Opening.{RightDegree, NotOpened}
+use Rattle.arithmetic.specs.Opening.{Opens, NotOpened}
 use Rattle.field.specs.declared.query.Query.{Query}
 use Rattle.field.specs.declared.query.Query.the-variants.{Field, Element, Unknown}
 use Rattle.field.specs.declared.answer.Answer.{Answer}
 use Rattle.field.specs.declared.answer.Answer.the-variants.{Refused, Opened, Wrong, Described, NoQuery}
 use Rattle.field.specs.Elements.{Describes}
 use Rattle.field.specs.Surveys.{Surveyed}
-
--- F opens the field of degree m
-abbrev pub Opens : ℕ → ℕ → Type 0
-Opens F m = RightDegree F m × NoFactor F m
 
 -- to the field of F: the survey of it, or why it does not open; no code is wrong
 abbrev pub OfField : ℕ → Answer → Type 0

@@ -1,16 +1,17 @@
 // An element of a field.
 ghost use Prim.Native.Nat.{_^_, _≤_};
-ghost use denote.Ref.{now};
 ghost use Rattle.std.specs.Results.{Cases};
 ghost use Rattle.arithmetic.specs.Answers.{NoInverse};
 ghost use Rattle.arithmetic.specs.Meaning.{field-of};
 ghost use Rattle.std.specs.declared.option.Option.the-variants.{Some};
 ghost use Rattle.arithmetic.specs.Refusals.{Refused};
 ghost use Rattle.field.specs.Elements.{Describes, Triangular};
-ghost use Rattle.field.specs.Texts.{element-text, spaced};
+ghost use Rattle.field.specs.Texts.{element-text};
 use arithmetic::BinaryField;
 use arithmetic::Refusal;
 use std::fmt;
+use text::Spaced;
+use text::SpacedDisplay;
 
 /// An element of a field, by its triangular coordinates and its inverse.
 #[derive(Clone, Copy)]
@@ -59,23 +60,7 @@ pub impl fmt::Display for Element as ElementDisplay {
         let iterations = self.iterations;
         write!(
             f,
-            "triangular {row}inverse {inverse} iterations {iterations}"
+            "triangular{row} inverse {inverse} iterations {iterations}"
         )
-    }
-}
-
-/// Numbers with a space behind each.
-#[derive(Clone, Copy)]
-struct Spaced<'a>(&'a [u32]);
-
-impl fmt::Display for Spaced<'_> as SpacedDisplay {
-    // What `{}` writes.
-    ghost shown = { λ s. Some (spaced (now (s .0))) };
-
-    fn fmt<W: fmt::Write>(&self, f: &mut fmt::Formatter<W>) -> fmt::Result {
-        for n in self.0 {
-            write!(f, "{n} ")?;
-        }
-        Ok(())
     }
 }

@@ -20,15 +20,9 @@ impl Query {
         if let Some(f) = text::number(line) {
             return Query::Field(f);
         }
-        let Some((left, right)) = text::split_once(line, b' ') else {
-            return Query::Unknown;
-        };
-        let Some(f) = text::number(left) else {
-            return Query::Unknown;
-        };
-        let Some(a) = text::number(right) else {
-            return Query::Unknown;
-        };
-        Query::Element(f, a)
+        match text::two_numbers(line) {
+            Some((f, a)) => Query::Element(f, a),
+            None => Query::Unknown,
+        }
     }
 }

@@ -1,21 +1,13 @@
--- The numerals of bytes that have two or three.
+-- The numerals of bytes that have three, and the words that a line begins with.
 use mathlib.Core.Path.{_≡_, sym, subst, _∙_}
 use mathlib.Core.List.{List, _++_, append-cancel-left}
 use Prim.Native.Nat.{ℕ}
 use lib.Chars.{codes}
 use native.Mathlib.Omega.{arith}
-use Rattle.text.specs.Numerals.{Numeral}
+use Rattle.text.specs.Numerals.{Numeral, Two}
 use Rattle.text.specs.Parts.{Parts}
 use Rattle.text.proofs.Cuts.{digits-without, same-parts}
-use Rattle.labels.specs.Queries.{Two, Three}
-
--- the parts at the first space of bytes that have two numerals are these numerals
-pub two-sides : (bytes x y : List ℕ) (m n : ℕ) → Parts 32 bytes x y → Two bytes m n → Numeral x × Numeral y
-two-sides bytes x y m n p t =
-    let q : Parts 32 bytes (t .left) (t .right) =
-    record { whole = t .whole; first = digits-without 32 (t .left) (omega arith) (t .left-one .numeral .digits) } in
-    let same = same-parts 32 bytes (t .left) (t .right) x y q p in
-    (subst Numeral (same .0) (t .left-one .numeral), subst Numeral (same .1) (t .right-one .numeral))
+use Rattle.labels.specs.Queries.{Three}
 
 -- the parts at the first space of bytes that have three numerals are the first of these and the two others
 pub three-sides : (bytes x y : List ℕ) (l m n : ℕ) → Parts 32 bytes x y → Three bytes l m n → Numeral x × Two y m n

@@ -1,40 +1,32 @@
--- One more character or number of a row, and a row to its end.
-use mathlib.Core.Path.{_≡_, refl, sym, ap, _∙_}
+-- One more character of a row, a row to its end, and a label's characters in UTF-8.
+use mathlib.Core.Path.{_≡_, sym, ap, _∙_}
 use mathlib.Core.List.{List, [], _∷_, _++_, append-assoc, append-nil}
-use Prim.Native.Nat.{ℕ, min, _+_, _-_, _<_, _≤_}
-use mathlib.Core.Logic.{inl, inr}
+use Prim.Native.Nat.{ℕ, _+_, _<_, _≤_}
 use native.Mathlib.Omega.{arith}
 use lib.ListN.{length, getD, take}
-use lib.Utf8.{encode}
-use Rattle.std.specs.Written.{decimal}
+use lib.Utf8.{encode, encodes}
+use Rattle.std.proofs.shelf.Ascii.{ascii-from-reads, encodes-ascii}
 use Rattle.std.proofs.shelf.Lists.{take-all, take-more}
-use Rattle.std.proofs.shelf.Tests.{cases-lt}
-use Rattle.labels.specs.RowTexts.{spaced, spelled}
+use Rattle.std.proofs.shelf.Ways.{tells}
+use Rattle.label.specs.Labels.{Spelled, character}
 
-spaced-push : (ns : List ℕ) (n : ℕ) → spaced (ns ++ n ∷ []) ≡ spaced ns ++ (32 ∷ decimal n)
-spaced-push [] n = ap (λ l. 32 ∷ l) (append-nil (decimal n))
-spaced-push (m ∷ ns) n = ap (λ l. 32 ∷ (decimal m ++ l)) (spaced-push ns n) ∙ sym (ap (λ l. 32 ∷ l) (append-assoc (decimal m) (spaced ns) (32 ∷ decimal n)))
+encodes-push : (cs : List ℕ) (c : ℕ) → encodes (cs ++ c ∷ []) ≡ encodes cs ++ encode c
+encodes-push [] c = append-nil (encode c)
+encodes-push (b ∷ cs) c = ap (λ l. encode b ++ l) (encodes-push cs c) ∙ sym (append-assoc (encode b) (encodes cs) (encode c))
 
-pub spaced-more : (ns : List ℕ) (i : ℕ) → i < length ns → spaced (take i ns) ++ (32 ∷ decimal (getD ns i 0)) ≡ spaced (take (i + 1) ns)
-spaced-more ns i h = sym (ap spaced (take-more ns i 0 h) ∙ spaced-push (take i ns) (getD ns i 0))
+pub encodes-more : (cs : List ℕ) (i : ℕ) → i < length cs → encodes (take i cs) ++ encode (getD cs i 0) ≡ encodes (take (i + 1) cs)
+encodes-more cs i h = sym (ap encodes (take-more cs i 0 h) ∙ encodes-push (take i cs) (getD cs i 0))
 
-pub spaced-all : (ns : List ℕ) (i : ℕ) → length ns ≤ i → spaced (take i ns) ≡ spaced ns
-spaced-all ns i h = ap spaced (take-all i ns h)
+pub encodes-all : (cs : List ℕ) (i : ℕ) → length cs ≤ i → encodes (take i cs) ≡ encodes cs
+encodes-all cs i h = ap encodes (take-all i cs h)
 
-spelled-push : (cs : List ℕ) (c : ℕ) → spelled (cs ++ c ∷ []) ≡ spelled cs ++ encode c
-spelled-push [] c = append-nil (encode c)
-spelled-push (b ∷ cs) c = ap (λ l. encode b ++ l) (spelled-push cs c) ∙ sym (append-assoc (encode b) (spelled cs) (encode c))
+-- a character of the alphabet is below 128
+low : (c : ℕ) → character c < 128
+low c = grind (arith, tells)
 
-pub spelled-more : (cs : List ℕ) (i : ℕ) → i < length cs → spelled (take i cs) ++ encode (getD cs i 0) ≡ spelled (take (i + 1) cs)
-spelled-more cs i h = sym (ap spelled (take-more cs i 0 h) ∙ spelled-push (take i cs) (getD cs i 0))
-
-pub spelled-all : (cs : List ℕ) (i : ℕ) → length cs ≤ i → spelled (take i cs) ≡ spelled cs
-spelled-all cs i h = ap spelled (take-all i cs h)
-
--- the first n numbers of a row are its first k, where k is n or, if the row is shorter, its length
-pub take-within : (ns : List ℕ) (n k : ℕ) → k ≡ min n (length ns) → take (k - 0) ns ≡ take n ns
-take-within ns n k e =
-    elim (cases-lt n (length ns)) [
-      | inl h ↦ let same : k - 0 ≡ n = omega arith in ap (λ j. take j ns) same
-      | inr h ↦ take-all (k - 0) ns (omega arith) ∙ sym (take-all n ns h)
-    ]
+-- the characters of a row of codes are their own UTF-8
+pub own-encoding : (row text : List ℕ) → Spelled row text → encodes text ≡ text
+own-encoding row text s =
+    encodes-ascii text
+    (ascii-from-reads text (length text) (omega arith)
+    (λ k h. let e = s .1 k (omega (arith, s .0)) in omega (arith, e, low (getD row k 0))))

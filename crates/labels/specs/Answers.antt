@@ -4,9 +4,8 @@ use Prim.Native.Nat.{ℕ, _≤_, _<_}
 use Rattle.std.specs.Options.{Cases}
 use Rattle.std.specs.declared.option.Option.{Option}
 use Rattle.std.specs.declared.option.Option.the-variants.{Some}
-use Rattle.algebra.specs.Binary.{NoFactor}
 use Rattle.arithmetic.specs.Meaning.{Meaning, field-of, residues}
-use Rattle.arithmetic.specs.Opening.{RightDegree, NotOpened}
+use Rattle.arithmetic.specs.Opening.{Opens, NotOpened}
 use Rattle.label.specs.Refusals.{Refused as RefusedBy}
 use Rattle.label.specs.Schemes.{NoScheme}
 use Rattle.labels.specs.declared.query.Query.{Query}
@@ -16,10 +15,6 @@ use Rattle.labels.specs.declared.current.Current.the-variants.{Absent, OverFie
 use Rattle.labels.specs.declared.answer.Answer.{Answer}
 use Rattle.labels.specs.declared.answer.Answer.the-variants.{NoField, Refused, Text, Label, NoQuery}
 use Rattle.labels.specs.Rows.{CodesOf, TextOf}
-
--- F opens the field of degree m
-abbrev pub Opens : ℕ → ℕ → Type 0
-Opens F m = RightDegree F m × NoFactor F m
 
 -- to a scheme over the field of F that is not laid out: why the field does not open, or why there is no such scheme
 abbrev pub NoBinary : ℕ → ℕ → ℕ → Answer → Type 0

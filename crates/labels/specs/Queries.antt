@@ -3,24 +3,11 @@ use mathlib.Core.Path.{_≡_}
 use mathlib.Core.List.{List, _∷_, _++_}
 use Prim.Native.Nat.{ℕ}
 use lib.Chars.{codes}
-use Rattle.text.specs.Numerals.{Numeral, value}
+use Rattle.text.specs.Numerals.{One, Two}
 use Rattle.labels.specs.declared.query.Query.{Query}
 use Rattle.labels.specs.declared.query.Query.the-variants.{Binary, Residue, Door, Unknown}
 
--- the bytes are a numeral of n
-pub record One (bytes : List ℕ) (n : ℕ) : Type 0 where
-  pub numeral : Numeral bytes
-  pub is : n ≡ value bytes
-
--- the bytes are a numeral of m, a space (the byte 32), and a numeral of n
-pub record Two (bytes : List ℕ) (m n : ℕ) : Type 0 where
-  pub left : List ℕ
-  pub right : List ℕ
-  pub whole : bytes ≡ left ++ 32 ∷ right
-  pub left-one : One left m
-  pub right-one : One right n
-
--- the bytes are a numeral of l, a space, a numeral of m, a space, and a numeral of n
+-- the bytes are a numeral of l, a space (the byte 32), a numeral of m, a space, and a numeral of n
 pub record Three (bytes : List ℕ) (l m n : ℕ) : Type 0 where
   pub left : List ℕ
   pub right : List ℕ

@@ -1,7 +1,7 @@
 // What a line asks.
 ghost use Prim.Native.Nat.{ℕ};
 ghost use Rattle.std.specs.Options.{Cases};
-ghost use Rattle.labels.specs.Queries.{Asks, Three, Two};
+ghost use Rattle.labels.specs.Queries.{Asks, Three};
 
 /// What a line asks.
 #[derive(Clone, Copy)]
@@ -16,22 +16,6 @@ pub enum Query {
     Unknown,
 }
 
-/// The two numbers that the bytes write, with one space between.
-fn two_numbers(bytes: &[u8]) -> Option<(u32, u32)>
-    ensures { λ r. ⌜ Cases r ((m n : ℕ) → Two (now (bytes .entry)) m n → ⊥) (λ p. Two (now (bytes .entry)) (p .0) (p .1)) ⌝ }
-{
-    let Some((left, right)) = text::split_once(bytes, b' ') else {
-        return None;
-    };
-    let Some(m) = text::number(left) else {
-        return None;
-    };
-    let Some(n) = text::number(right) else {
-        return None;
-    };
-    Some((m, n))
-}
-
 /// The three numbers that the bytes write, with one space between.
 fn three_numbers(bytes: &[u8]) -> Option<(u32, u32, u32)>
     ensures { λ r. ⌜ Cases r ((l m n : ℕ) → Three (now (bytes .entry)) l m n → ⊥) (λ p. Three (now (bytes .entry)) (p .0) (p .1) (p .2)) ⌝ }
@@ -42,7 +26,7 @@ fn three_numbers(bytes: &[u8]) -> Option<(u32, u32, u32)>
     let Some(l) = text::number(left) else {
         return None;
     };
-    let Some((m, n)) = two_numbers(right) else {
+    let Some((m, n)) = text::two_numbers(right) else {
         return None;
     };
     Some((l, m, n))
@@ -60,7 +44,7 @@ impl Query {
             };
         }
         if let Some(rest) = line.strip_prefix(b"residue ") {
-            return match two_numbers(rest) {
+            return match text::two_numbers(rest) {
                 Some((n, k)) => Query::Residue(n, k),
                 None => Query::Unknown,
             };

@@ -1,16 +1,18 @@
 // Labels in rows of a fixed size.
-ghost use mathlib.Core.Path.{_≡_};
 ghost use Prim.Native.Nat.{_<_, _≤_};
+ghost use lib.Utf8.{encodes};
 ghost use denote.Ref.{now};
 ghost use Rattle.std.specs.Results.{Cases};
 ghost use Rattle.std.specs.declared.option.Option.the-variants.{Some};
 ghost use Rattle.label.specs.Schemes.{IsScheme, NotPrinted, NotTyped};
 ghost use Rattle.labels.specs.Rows.{CodesOf, TextOf};
-ghost use Rattle.labels.specs.RowTexts.{characters-text, codes-text, spaced, spelled};
+ghost use Rattle.labels.specs.RowTexts.{characters-text, codes-text};
 use arithmetic::Arithmetic;
 use label::Refusal;
 use label::Scheme;
 use std::fmt;
+use text::Spaced;
+use text::SpacedDisplay;
 
 /// A label as text.
 #[derive(Clone, Copy)]
@@ -86,28 +88,12 @@ struct Spelled<'a>(&'a [u8]);
 
 impl fmt::Display for Spelled<'_> as SpelledDisplay {
     // What `{}` writes.
-    ghost shown = { λ s. Some (spelled (now (s .0))) };
+    ghost shown = { λ s. Some (encodes (now (s .0))) };
 
     fn fmt<W: fmt::Write>(&self, f: &mut fmt::Formatter<W>) -> fmt::Result {
         for b in self.0 {
             let c = *b as char;
             write!(f, "{c}")?;
-        }
-        Ok(())
-    }
-}
-
-/// Numbers with a space before each.
-#[derive(Clone, Copy)]
-struct Spaced<'a>(&'a [u32]);
-
-impl fmt::Display for Spaced<'_> as SpacedDisplay {
-    // What `{}` writes.
-    ghost shown = { λ s. Some (spaced (now (s .0))) };
-
-    fn fmt<W: fmt::Write>(&self, f: &mut fmt::Formatter<W>) -> fmt::Result {
-        for n in self.0 {
-            write!(f, " {n}")?;
         }
         Ok(())
     }

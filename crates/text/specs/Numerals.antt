@@ -1,5 +1,6 @@
 -- Decimal numerals in bytes.
-use mathlib.Core.List.{List, [], _∷_}
+use mathlib.Core.Path.{_≡_}
+use mathlib.Core.List.{List, [], _∷_, _++_}
 use Prim.Native.Nat.{ℕ, _+_, _-_, _*_, _^_, _<_, _≤_}
 use lib.ListN.{length, getD}
 
@@ -26,3 +27,16 @@ pub record Numeral (bs : List ℕ) : Type 0 where
   pub few : length bs ≤ 10
   pub digits : Digits bs
   pub small : value bs < 2 ^ 32
+
+-- the bytes are a numeral of n
+pub record One (bs : List ℕ) (n : ℕ) : Type 0 where
+  pub numeral : Numeral bs
+  pub is : n ≡ value bs
+
+-- the bytes are a numeral of m, a space (the byte 32), and a numeral of n
+pub record Two (bs : List ℕ) (m n : ℕ) : Type 0 where
+  pub left : List ℕ
+  pub right : List ℕ
+  pub whole : bs ≡ left ++ 32 ∷ right
+  pub left-one : One left m
+  pub right-one : One right n

@@ -1,12 +1,15 @@
-// Reading bytes: lines, parts between separators, and decimal numbers.
+// Reading bytes: lines, parts between separators, and decimal numbers; and writing numbers in a row.
 ghost use mathlib.Core.Path.{_≡_};
-ghost use Prim.Native.Nat.{_<_};
+ghost use Prim.Native.Nat.{ℕ, _<_};
 ghost use lib.ListN.{length};
 ghost use denote.Ref.{now};
 ghost use Rattle.std.specs.Numbers.{Checked};
 ghost use Rattle.std.specs.Options.{Cases};
-ghost use Rattle.text.specs.Numerals.{Numeral, value};
+ghost use Rattle.std.specs.declared.option.Option.the-variants.{Some};
+ghost use Rattle.text.specs.Numerals.{Numeral, Two, value};
 ghost use Rattle.text.specs.Parts.{NextLine, Parts, Without};
+ghost use Rattle.text.specs.Spacing.{spaced};
+use std::fmt;
 
 /// The number that the bytes write: one to ten decimal digits, and below 2^32. Zeros may lead.
 pub fn number(bytes: &[u8]) -> Option<u32>
@@ -35,6 +38,38 @@ pub fn split_once(bytes: &[u8], separator: u8) -> Option<(&[u8], &[u8])>
         }
     }
     None
+}
+
+/// The two numbers that the bytes write, with one space between.
+pub fn two_numbers(bytes: &[u8]) -> Option<(u32, u32)>
+    ensures { λ r. ⌜ Cases r ((m n : ℕ) → Two (now (bytes .entry)) m n → ⊥) (λ p. Two (now (bytes .entry)) (p .0) (p .1)) ⌝ }
+{
+    let Some((left, right)) = split_once(bytes, b' ') else {
+        return None;
+    };
+    let Some(m) = number(left) else {
+        return None;
+    };
+    let Some(n) = number(right) else {
+        return None;
+    };
+    Some((m, n))
+}
+
+/// Numbers that `{}` writes with a space before each.
+#[derive(Clone, Copy)]
+pub struct Spaced<'a>(pub &'a [u32]);
+
+pub impl fmt::Display for Spaced<'_> as SpacedDisplay {
+    // What `{}` writes.
+    ghost shown = { λ s. Some (spaced (now (s .0))) };
+
+    fn fmt<W: fmt::Write>(&self, f: &mut fmt::Formatter<W>) -> fmt::Result {
+        for n in self.0 {
+            write!(f, " {n}")?;
+        }
+        Ok(())
+    }
 }
 
 /// The lines of a text. A line ends before a line feed, which the last may lack.

@@ -2,7 +2,7 @@
 use mathlib.Core.Path.{subst}
 use Rattle.arithmetic.specs.Meaning.{field-of}
 use Rattle.label.specs.Schemes.{NoScheme}
-use Rattle.labels.proofs.Openings.{opens}
+use Rattle.arithmetic.proofs.Openings.{opens}
 use Rattle.labels.proofs.current.lay_out_binary.Needs as need
 
 pub returns-in-Err-lay-out : need.returns-in-Err-lay-out

@@ -4,7 +4,7 @@ use mathlib.Core.Path.{subst}
 use Rattle.arithmetic.specs.Answers.{NoInverse}
 use Rattle.arithmetic.specs.Meaning.{field-of}
 use Rattle.field.specs.Elements.{Describes}
-use Rattle.field.proofs.Openings.{opens}
+use Rattle.arithmetic.proofs.Openings.{opens}
 use Rattle.field.proofs.answer.Answer.of_element.Needs as need
 
 pub returns-in-Ok-new : need.returns-in-Ok-new

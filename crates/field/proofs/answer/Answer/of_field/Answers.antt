@@ -1,7 +1,7 @@
 -- What the proof of `answer::Answer::of_field` leaves to be shown.
 use mathlib.Core.Path.{subst}
 use Rattle.field.specs.Surveys.{Surveyed}
-use Rattle.field.proofs.Openings.{opens}
+use Rattle.arithmetic.proofs.Openings.{opens}
 use Rattle.field.proofs.answer.Answer.of_field.Needs as need
 
 pub returns-in-Ok-new : need.returns-in-Ok-new

@@ -7,8 +7,8 @@ use lib.ListN.{length}
 use borrow.Author.Needs.{needs}
 use Rattle.std.specs.Written.{decimal}
 use Rattle.std.proofs.Writes.{put-is}
-use Rattle.field.specs.Texts.{spaced}
-use Rattle.field.proofs.Printing.{take-within}
+use Rattle.text.specs.Spacing.{spaced}
+use Rattle.text.proofs.Spacing.{take-within}
 use Rattle.field.proofs.element.ElementDisplay.fmt.Needs as need
 
 pub returns : need.returns
@@ -16,6 +16,6 @@ returns g c = λ plain ok.
     let element = c .args .self .now in
     let within : c .min .result ≡ min (element .degree) (length (element .row)) = search needs in
     put-is _ _ _ _ (c .write .last .self)
-    (ap (λ l. codes "triangular " ++ (spaced l ++ (codes "inverse " ++ (decimal (element .inverse) ++ (codes " iterations " ++ decimal (element .iterations))))))
+    (ap (λ l. codes "triangular" ++ (spaced l ++ (codes " inverse " ++ (decimal (element .inverse) ++ (codes " iterations " ++ decimal (element .iterations))))))
     (take-within (element .row) (element .degree) (c .min .result) within))
     (c .write .ensures .shows plain ok)

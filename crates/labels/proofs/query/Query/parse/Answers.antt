@@ -3,7 +3,8 @@ use mathlib.Core.Path.{_≡_, subst}
 use mathlib.Core.List.{_++_}
 use lib.Chars.{codes}
 use borrow.Author.Needs.{needs}
-use Rattle.labels.specs.Queries.{Three, Two}
+use Rattle.text.specs.Numerals.{Two}
+use Rattle.labels.specs.Queries.{Three}
 use Rattle.labels.proofs.Lines.{behind, binary-residue, binary-door, residue-door}
 use Rattle.labels.proofs.query.Query.parse.Needs as need
 

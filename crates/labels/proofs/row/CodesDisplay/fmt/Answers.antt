@@ -5,7 +5,7 @@ use lib.ListN.{length}
 use borrow.Author.Needs.{needs}
 use Rattle.std.proofs.Writes.{put-is}
 use Rattle.labels.specs.RowTexts.{separated}
-use Rattle.labels.proofs.Printing.{take-within}
+use Rattle.text.proofs.Spacing.{take-within}
 use Rattle.labels.proofs.row.CodesDisplay.fmt.Needs as need
 
 pub returns : need.returns

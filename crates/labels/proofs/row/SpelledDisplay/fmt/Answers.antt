@@ -4,7 +4,7 @@ use mathlib.Core.Path.{refl}
 use lib.ListN.{getD}
 use lib.Utf8.{encode}
 use Rattle.std.proofs.Writes.{put-is, put-more, wrote-none}
-use Rattle.labels.proofs.Printing.{spelled-all, spelled-more}
+use Rattle.labels.proofs.Printing.{encodes-all, encodes-more}
 use Rattle.labels.proofs.row.SpelledDisplay.fmt.Needs as need
 
 pub loop-b-holds : need.loop-b-holds
@@ -15,10 +15,10 @@ loop-b-again g c = λ plain.
     let row = c .args .self .now .0 .now in
     let i = c .loop-b .b-index in
     let before = c .loop-b .inv plain in
-    put-is _ _ _ _ (c .write .last .self) (spelled-more row i (c .loop-b-test .taken))
+    put-is _ _ _ _ (c .write .last .self) (encodes-more row i (c .loop-b-test .taken))
     (put-more _ _ _ (c .loop-b .f) (encode (getD row i 0)) (c .write .last .self) before
     (c .in-Continue-write .ensures tt .shows (before .plain) (refl {a = true})))
 
 pub returns : need.returns
 returns g c = λ plain _.
-    put-is _ _ _ _ _ (spelled-all (c .args .self .now .0 .now) (c .loop-b .b-index) (c .loop-b-test .left)) (c .loop-b .inv plain)
+    put-is _ _ _ _ _ (encodes-all (c .args .self .now .0 .now) (c .loop-b .b-index) (c .loop-b-test .left)) (c .loop-b .inv plain)

@@ -1,6 +1,6 @@
--- One more number of a row, and a row to its end.
+-- One more number of a row, a row to its end, and the first places of a row.
 use mathlib.Core.Path.{_≡_, refl, sym, ap, _∙_}
-use mathlib.Core.List.{List, [], _∷_, _++_, append-assoc}
+use mathlib.Core.List.{List, [], _∷_, _++_, append-assoc, append-nil}
 use Prim.Native.Nat.{ℕ, min, _+_, _-_, _<_, _≤_}
 use mathlib.Core.Logic.{inl, inr}
 use native.Mathlib.Omega.{arith}
@@ -8,13 +8,13 @@ use lib.ListN.{length, getD, take}
 use Rattle.std.specs.Written.{decimal}
 use Rattle.std.proofs.shelf.Lists.{take-all, take-more}
 use Rattle.std.proofs.shelf.Tests.{cases-lt}
-use Rattle.field.specs.Texts.{spaced}
+use Rattle.text.specs.Spacing.{spaced}
 
-spaced-push : (ns : List ℕ) (n : ℕ) → spaced (ns ++ n ∷ []) ≡ spaced ns ++ (decimal n ++ 32 ∷ [])
-spaced-push [] n = refl
-spaced-push (m ∷ ns) n = ap (λ l. decimal m ++ 32 ∷ l) (spaced-push ns n) ∙ sym (append-assoc (decimal m) (32 ∷ spaced ns) (decimal n ++ 32 ∷ []))
+spaced-push : (ns : List ℕ) (n : ℕ) → spaced (ns ++ n ∷ []) ≡ spaced ns ++ (32 ∷ decimal n)
+spaced-push [] n = ap (λ l. 32 ∷ l) (append-nil (decimal n))
+spaced-push (m ∷ ns) n = ap (λ l. 32 ∷ (decimal m ++ l)) (spaced-push ns n) ∙ sym (ap (λ l. 32 ∷ l) (append-assoc (decimal m) (spaced ns) (32 ∷ decimal n)))
 
-pub spaced-more : (ns : List ℕ) (i : ℕ) → i < length ns → spaced (take i ns) ++ (decimal (getD ns i 0) ++ 32 ∷ []) ≡ spaced (take (i + 1) ns)
+pub spaced-more : (ns : List ℕ) (i : ℕ) → i < length ns → spaced (take i ns) ++ (32 ∷ decimal (getD ns i 0)) ≡ spaced (take (i + 1) ns)
 spaced-more ns i h = sym (ap spaced (take-more ns i 0 h) ∙ spaced-push (take i ns) (getD ns i 0))
 
 pub spaced-all : (ns : List ℕ) (i : ℕ) → length ns ≤ i → spaced (take i ns) ≡ spaced ns

@@ -1,9 +1,9 @@
--- What the loops of `row::SpacedDisplay::fmt` keep, and what falls.
+-- What the loops of `SpacedDisplay::fmt` keep, and what falls.
 use lib.ListN.{take}
 use denote.Ref.{now}
 use Rattle.std.specs.Written.{Plain, Put}
-use Rattle.labels.specs.RowTexts.{spaced}
-use Rattle.labels.proofs.row.SpacedDisplay.fmt.Given as given
+use Rattle.text.specs.Spacing.{spaced}
+use Rattle.text.proofs.SpacedDisplay.fmt.Given as given
 
 abbrev pub Inv-loop-n : given.InvT-loop-n
 Inv-loop-n g l =
