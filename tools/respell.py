@@ -16,6 +16,8 @@ PLAIN = set(
     "is at of in by all first more left right few most low high next down below past beyond same own each but no not has one_way "
     "its are with without before after taken added".split()
 )
+# Lemmas spelled as the library spells its own of that name, or whose respelling is a word of the library.
+KEPT = {"zero-add", "zero-mul", "one-mul", "mul-zero", "bit-xor"}
 # What snake case alone would let fall together with another name.
 CHOSEN = {"digitsIn": "digits_up_to", "eqL→eq": "eq_l-eq", "U-short": "multiplier_short"}
 
@@ -50,6 +52,8 @@ def snake(word):
 
 
 def respelled(name, specs, fields):
+    if name in KEPT:
+        return name
     if name in CHOSEN:
         return CHOSEN[name]
     words = [snake(word) for word in name.split("-")]

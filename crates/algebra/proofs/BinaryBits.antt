@@ -18,8 +18,8 @@ xor_digits (suc zero) (suc zero) hd he = refl
 xor_digits (suc zero) (suc (suc e)) hd he = absurd (omega arith)
 xor_digits (suc (suc d)) e hd he = absurd (omega arith)
 
-pub bit_xor : (a b i : ℕ) → bit (bit_xor a b) i ≡ (bit a i + bit b i) % 2
-bit_xor a b i =
+pub bit-xor : (a b i : ℕ) → bit (bit_xor a b) i ≡ (bit a i + bit b i) % 2
+bit-xor a b i =
     ap (λ (x : ℕ). x % 2) (xor_shr a b i) ∙ xor_mod (a / 2 ^ i) (b / 2 ^ i) 1
     ∙ xor_digits (bit a i) (bit b i) (bit_lt a i) (bit_lt b i)
 

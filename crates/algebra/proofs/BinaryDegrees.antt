@@ -1,5 +1,5 @@
 -- Degrees of sums and products.
-use Rattle.std.proofs.Common.{◌≡◌, ℕ, zero, suc, ◌+◌, ◌-◌, ◌*◌, ◌/◌, ◌%◌, ◌^◌, ◌<◌, ◌≤◌, sym, ap, ◌∙◌, subst, ap₂, inl, inr, zero-le, le_trans, le_of_eq, le_refl, lt_of_lt_of_le, add-zero, lt_irrefl, add-suc, mul_assoc, mul_comm, div-lt_iff_lt-mul, eq-zero-or-pos, one_mul, pow-suc, le-div_iff_mul-le, mul-one, arith, pow_pos, pow_mono}
+use Rattle.std.proofs.Common.{◌≡◌, ℕ, zero, suc, ◌+◌, ◌-◌, ◌*◌, ◌/◌, ◌%◌, ◌^◌, ◌<◌, ◌≤◌, sym, ap, ◌∙◌, subst, ap₂, inl, inr, zero-le, le_trans, le_of_eq, le_refl, lt_of_lt_of_le, add-zero, lt_irrefl, add-suc, mul_assoc, mul_comm, div-lt_iff_lt-mul, eq-zero-or-pos, one-mul, pow-suc, le-div_iff_mul-le, mul-one, arith, pow_pos, pow_mono}
 use native.Mathlib.Nat.{div-eq_of_lt}
 use native.Mathlib.Decide.{dec_lt}
 use lib.Bits.{bit_xor, xor_comm, xor_assoc, xor_lt, xor_shr}
@@ -17,7 +17,7 @@ pow_dbl d = pow-suc 2 d
 -- the highest digit is 1
 top : (a d : ℕ) → Degree a d → a / 2 ^ d ≡ 1
 top a d h =
-    let low : 1 ≤ a / 2 ^ d = (le-div_iff_mul-le (pow_pos d)).1 (le_trans (le_of_eq (one_mul (2 ^ d))) h.0) in
+    let low : 1 ≤ a / 2 ^ d = (le-div_iff_mul-le (pow_pos d)).1 (le_trans (le_of_eq (one-mul (2 ^ d))) h.0) in
     let high : a / 2 ^ d < 2 = (div-lt_iff_lt-mul (pow_pos d)).1 (lt_of_lt_of_le h.1 (le_of_eq (pow_dbl d ∙ mul_comm (2 ^ d) 2))) in
     omega arith
 
@@ -25,7 +25,7 @@ of_top : (a d : ℕ) → a / 2 ^ d ≡ 1 → Degree a d
 of_top a d e =
     let low : 1 ≤ a / 2 ^ d = omega arith in
     let high : a / 2 ^ d < 2 = omega arith in (
-      le_trans (le_of_eq (sym (one_mul (2 ^ d)))) ((le-div_iff_mul-le (pow_pos d)).0 low),
+      le_trans (le_of_eq (sym (one-mul (2 ^ d)))) ((le-div_iff_mul-le (pow_pos d)).0 low),
       lt_of_lt_of_le ((div-lt_iff_lt-mul (pow_pos d)).0 high) (le_of_eq (mul_comm 2 (2 ^ d) ∙ sym (pow_dbl d))),
     )
 
@@ -36,7 +36,7 @@ pub xor_falls : (a b d : ℕ) → Degree a d → Degree b d → bit_xor a b < 2 
 xor_falls a b d h l =
     let z : bit_xor a b / 2 ^ d ≡ 0 = xor_shr a b d ∙ ap₂ bit_xor (top a d h) (top b d l) in
     let s : bit_xor a b / 2 ^ d < 1 = omega arith in
-    lt_of_lt_of_le ((div-lt_iff_lt-mul (pow_pos d)).0 s) (le_of_eq (one_mul (2 ^ d)))
+    lt_of_lt_of_le ((div-lt_iff_lt-mul (pow_pos d)).0 s) (le_of_eq (one-mul (2 ^ d)))
 
 dbl_degree : (a d : ℕ) → Degree a d → Degree (a * 2) (suc d)
 dbl_degree a d h = omega (arith, pow_dbl d, pow_dbl (suc d))

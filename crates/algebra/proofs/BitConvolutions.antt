@@ -1,5 +1,5 @@
 -- Products of polynomials modulo 2, coefficient by coefficient, as sums of products.
-use Rattle.std.proofs.Common.{◌≡◌, ℕ, zero, suc, ◌+◌, ◌-◌, ◌*◌, ◌%◌, ◌<◌, ◌≤◌, sym, ap, ◌∙◌, ap₂, add-zero, zero_add, arith}
+use Rattle.std.proofs.Common.{◌≡◌, ℕ, zero, suc, ◌+◌, ◌-◌, ◌*◌, ◌%◌, ◌<◌, ◌≤◌, sym, ap, ◌∙◌, ap₂, add-zero, zero-add, arith}
 use native.Mathlib.Nat.{add-mod, sub-zero}
 use native.Mathlib.Decide.{dec_lt}
 use Rattle.algebra.specs.Codes.{modulo}
@@ -9,7 +9,7 @@ use Rattle.algebra.proofs.HankelCoordinates.{total_ext}
 
 -- the first term apart
 total_first : (n : ℕ) (x : ℕ → ℕ) → total (suc n) x ≡ x 0 + total n (λ i. x (suc i))
-total_first zero x = zero_add (x 0) ∙ sym (add-zero (x 0))
+total_first zero x = zero-add (x 0) ∙ sym (add-zero (x 0))
 total_first (suc n) x = omega (arith, total_first n x)
 
 -- terms that are 0 do not count
@@ -22,7 +22,7 @@ total_past m (suc n) x h z = go (λ l. total_past m n x l z) (dec_lt n m)
     go rest (no l) = omega (arith, rest (omega arith), z n (omega arith))
 
 pub conv-total : (u s : ℕ → ℕ) (t : ℕ) → conv (modulo 2) u s t ≡ total (suc t) (λ j. u j * s (t - j)) % 2
-conv-total u s zero = ap (λ (x : ℕ). x % 2) (sym (zero_add (u 0 * s 0)))
+conv-total u s zero = ap (λ (x : ℕ). x % 2) (sym (zero-add (u 0 * s 0)))
 conv-total u s (suc t) =
     ap (λ (x : ℕ). ((u 0 * s (suc t)) % 2 + x) % 2) (conv-total (λ j. u (suc j)) s t)
     ∙ sym (add-mod (u 0 * s (suc t)) (total (suc t) (λ j. u (suc j) * s (t - j))) 2)

@@ -37,8 +37,8 @@ module _ {K : Type 0} (o : Operations K) (R : Ring o) where
 
   pub conv-delay : (d : ℕ) (v s : ℕ → K) (t : ℕ) → conv (delay d v) s t ≡ delay d (conv v s) t
   conv-delay zero v s t = refl
-  conv-delay (suc d) v s zero = Rings.zero_mul o R (s 0)
-  conv-delay (suc d) v s (suc t) = ap₂ ◌⊞◌ (Rings.zero_mul o R (s (suc t))) (conv-delay d v s t) ∙ Rings.zero_add o R _
+  conv-delay (suc d) v s zero = Rings.zero-mul o R (s 0)
+  conv-delay (suc d) v s (suc t) = ap₂ ◌⊞◌ (Rings.zero-mul o R (s (suc t))) (conv-delay d v s t) ∙ Rings.zero-add o R _
 
   pub conv-step : (c : K) (d : ℕ) (u v s : ℕ → K) (t : ℕ) → conv (λ j. u j ⊞ neg (c * delay d v j)) s t ≡ conv u s t ⊞ neg (c * delay d (conv v s) t)
   conv-step c d u v s t = conv_sub c u (delay d v) s t ∙ ap (λ x. conv u s t ⊞ neg (c * x)) (conv-delay d v s t)

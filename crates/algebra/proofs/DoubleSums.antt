@@ -34,7 +34,7 @@ module _ {K : Type 0} (o : Operations K) (R : Ring o) where
 
   -- the sum of u_j q_(t-j) over j from 0 to t
   pub conv-sums : (u q : ℕ → K) (t : ℕ) → conv o u q t ≡ sums o (suc t) (λ j. u j · q (t - j))
-  conv-sums u q zero = sym (Rings.zero_add o R (u 0 · q 0))
+  conv-sums u q zero = sym (Rings.zero-add o R (u 0 · q 0))
   conv-sums u q (suc t) =
       ap₂ ◌⊞◌ (ap (λ m. u 0 · q m) (omega arith)) (conv-sums (λ j. u (suc j)) q t ∙ Sums.sums_same o (suc t) _ _ (λ j l. ap (λ m. u (suc j) · q m) (omega arith)))
       ∙ sym (Sums.sums_first o R (suc t) (λ j. u j · q (suc t - j)))

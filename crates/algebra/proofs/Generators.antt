@@ -49,4 +49,4 @@ module _ {K : Type 0} (o : Operations K) (R : Ring o) where
         go (inl e) ih =
             ap (λ i. (pow o g i ⊞ neg (pow o g (suc r))) ⊠ value o (suc r) (generator o g r) (pow o g j)) e
             ∙ Solver.ring o R (pow o g (suc r) ∷ value o (suc r) (generator o g r) (pow o g j) ∷ []) (search reify depth 30) tt
-        go (inr k) ih = ap (λ v. (pow o g j ⊞ neg (pow o g (suc r))) ⊠ v) (ih (omega arith)) ∙ Rings.mul_zero o R _
+        go (inr k) ih = ap (λ v. (pow o g j ⊞ neg (pow o g (suc r))) ⊠ v) (ih (omega arith)) ∙ Rings.mul-zero o R _

@@ -1,5 +1,5 @@
 -- The coordinates of a are the coefficients of z^(m-1) in a z^j modulo F, and the rows of the Hankel system those in a b z^i.
-use Rattle.std.proofs.Common.{◌≡◌, ℕ, zero, suc, ◌+◌, ◌-◌, ◌*◌, ◌%◌, ◌^◌, ◌<◌, ◌≤◌, ◌⊎◌, sym, ap, ◌∙◌, subst, ap₂, inl, inr, mod-lt, mod-eq_of_lt, mul_assoc, mul_comm, add_comm, suc-add, one_mul, pow-suc, zero_add, zero_mul, mul-one, arith, pow_pos, pow-add}
+use Rattle.std.proofs.Common.{◌≡◌, ℕ, zero, suc, ◌+◌, ◌-◌, ◌*◌, ◌%◌, ◌^◌, ◌<◌, ◌≤◌, ◌⊎◌, sym, ap, ◌∙◌, subst, ap₂, inl, inr, mod-lt, mod-eq_of_lt, mul_assoc, mul_comm, add_comm, suc-add, one-mul, pow-suc, zero-add, zero-mul, mul-one, arith, pow_pos, pow-add}
 use native.Mathlib.Nat.{mod-one, zero-div}
 use native.Mathlib.Decide.{dec_lt}
 use lib.Bits.{bit_xor, xor_zero_r, xor_shifted}
@@ -8,7 +8,7 @@ use Rattle.algebra.specs.Coordinates.{total, hankel, row}
 use Rattle.algebra.proofs.BinaryProducts.{times-zero_r, times_xor_r, xor_shl}
 use Rattle.algebra.proofs.BinaryDegrees.{LeavesBy, times-pow_r, xor_falls, shl_degree}
 use Rattle.algebra.proofs.BinaryRemainders.{leaves_step, leaves_self, remainder_is, remainder_lt, remainder_xor, remainder-times}
-use Rattle.algebra.proofs.BinaryBits.{bit_lt, bit_xor, bit_dbl, mod_suc, top_bit, degree-bit}
+use Rattle.algebra.proofs.BinaryBits.{bit_lt, bit-xor, bit_dbl, mod_suc, top_bit, degree-bit}
 use Rattle.algebra.proofs.HankelCoordinates.{total_ext, hankel_low, hankel_high}
 
 shl_shl : (a i j : ℕ) → a * 2 ^ i * 2 ^ j ≡ a * 2 ^ (i + j)
@@ -20,8 +20,8 @@ module _ (f : ℕ → ℕ) (linear : (x y : ℕ) → f (bit_xor x y) ≡ (f x + 
   at_zero = omega (arith, linear 0 0)
 
   at_digit : (a d n : ℕ) → d < 2 → f (times a (d * 2 ^ n)) ≡ f (a * 2 ^ n) * d
-  at_digit a zero n h = rw (zero_mul, times-zero_r, at_zero) (omega arith)
-  at_digit a (suc zero) n h = ap f (ap (times a) (one_mul (2 ^ n)) ∙ times-pow_r a n) ∙ sym (mul-one (f (a * 2 ^ n)))
+  at_digit a zero n h = rw (zero-mul, times-zero_r, at_zero) (omega arith)
+  at_digit a (suc zero) n h = ap f (ap (times a) (one-mul (2 ^ n)) ∙ times-pow_r a n) ∙ sym (mul-one (f (a * 2 ^ n)))
   at_digit a (suc (suc d)) n h = absurd (omega arith)
 
   expand : (a c n : ℕ) → f (times a (c % 2 ^ n)) ≡ total n (λ j. f (a * 2 ^ j) * bit c j) % 2
@@ -40,7 +40,7 @@ lead F m x = bit (remainder x F) (m - 1)
 
 module _ (F m : ℕ) (hF : Degree F m) (pos : 0 < m) where
   pub lead_xor : (x y : ℕ) → lead F m (bit_xor x y) ≡ (lead F m x + lead F m y) % 2
-  lead_xor x y = ap (λ (r : ℕ). bit r (m - 1)) (remainder_xor F m hF x y) ∙ bit_xor (remainder x F) (remainder y F) (m - 1)
+  lead_xor x y = ap (λ (r : ℕ). bit r (m - 1)) (remainder_xor F m hF x y) ∙ bit-xor (remainder x F) (remainder y F) (m - 1)
 
   pub small : (x : ℕ) → x < 2 ^ m → remainder x F ≡ x
   small x h = sym (remainder_is F m hF x x (leaves_self x F m hF h))
@@ -69,12 +69,12 @@ module _ (F m : ℕ) (hF : Degree F m) (pos : 0 < m) where
       go (inl (e, l)) = rw (small (y * 2) (omega (arith, whole, pow-suc 2 (m - 1))), bit_dbl, e) (omega arith)
       go (inr (e, l)) =
           let d : Degree (y * 2) m = subst (Degree (y * 2)) (omega arith) (shl_degree y (m - 1) 1 l) in
-          rw (cancelled (y * 2) (xor_falls (y * 2) F m d hF), bit_xor, bit_dbl, e) (omega arith)
+          rw (cancelled (y * 2) (xor_falls (y * 2) F m d hF), bit-xor, bit_dbl, e) (omega arith)
 
   module _ (a : ℕ) (ha : a < 2 ^ m) where
     -- the doubling, j times
     unrolled : (j q : ℕ) → j + q < m → bit (remainder (a * 2 ^ j) F) (j + q) ≡ (bit a q + total j (λ i. bit F (suc (i + q)) * lead F m (a * 2 ^ i))) % 2
-    unrolled zero q h = rw (mul-one, small a ha, zero_add) (omega arith)
+    unrolled zero q h = rw (mul-one, small a ha, zero-add) (omega arith)
     unrolled (suc j) q h =
         let x = remainder (a * 2 ^ j) F in
         let next : remainder (a * 2 ^ suc j) F ≡ remainder (x * 2) F =

@@ -1,5 +1,5 @@
 -- Modulo an F with no factor, a b that is not 0 and makes every row but the last 0 is the inverse of a.
-use Rattle.std.proofs.Common.{◌≡◌, ℕ, suc, ◌+◌, ◌-◌, ◌*◌, ◌%◌, ◌^◌, ◌<◌, ◌≤◌, Bool, true, false, cond, eqb, sym, refl, ap, ◌∙◌, subst, ap₂, inl, inr, eq-zero-or-pos, one_mul, pow-suc, arith, pow_pos, eqb-true}
+use Rattle.std.proofs.Common.{◌≡◌, ℕ, suc, ◌+◌, ◌-◌, ◌*◌, ◌%◌, ◌^◌, ◌<◌, ◌≤◌, Bool, true, false, cond, eqb, sym, refl, ap, ◌∙◌, subst, ap₂, inl, inr, eq-zero-or-pos, one-mul, pow-suc, arith, pow_pos, eqb-true}
 use native.Mathlib.Nat.{div-eq_of_lt}
 use native.Mathlib.Decide.{dec_lt}
 use borrow.Author.Tests.{eqb-false}
@@ -38,7 +38,7 @@ module _ (F m : ℕ) (hF : Degree F m) (pos : 0 < m) where
           omega (arith, lead_top (x * 2 ^ i) t, z i (omega arith))
 
   lead_one : (i : ℕ) → i < m → lead F m (1 * 2 ^ i) ≡ cond (eqb i (m - 1)) 1 0
-  lead_one i h = rw one_mul (go (eqb i (m - 1)) refl)
+  lead_one i h = rw one-mul (go (eqb i (m - 1)) refl)
     where
       go : (t : Bool) → eqb i (m - 1) ≡ t → lead F m (2 ^ i) ≡ cond t 1 0
       go true e = lead_top (2 ^ i) (subst (Degree (2 ^ i)) (eqb-true i (m - 1) e) (pow-degree i))

@@ -46,14 +46,14 @@ module _ {K : Type 0} (o : Operations K) (R : Ring o) (Z : Tested o) where
   power_off d t h = ap (λ b. cond b 1# 0#) (ne_eqb t d h)
 
   pub conv-nothing : (u s : ℕ → K) (t : ℕ) → ((j : ℕ) → u j ≡ 0#) → conv o u s t ≡ 0#
-  conv-nothing u s zero h = ap (λ x. x · s 0) (h 0) ∙ Rings.zero_mul o R (s 0)
+  conv-nothing u s zero h = ap (λ x. x · s 0) (h 0) ∙ Rings.zero-mul o R (s 0)
   conv-nothing u s (suc t) h =
-      ap₂ ◌⊞◌ (ap (λ x. x · s (suc t)) (h 0) ∙ Rings.zero_mul o R (s (suc t))) (conv-nothing (λ j. u (suc j)) s t (λ j. h (suc j)))
+      ap₂ ◌⊞◌ (ap (λ x. x · s (suc t)) (h 0) ∙ Rings.zero-mul o R (s (suc t))) (conv-nothing (λ j. u (suc j)) s t (λ j. h (suc j)))
       ∙ R.sum_zero 0#
 
   conv-one : (s : ℕ → K) (t : ℕ) → conv o (power o 0) s t ≡ s t
-  conv-one s zero = Rings.one_mul o R (s 0)
-  conv-one s (suc t) = ap₂ ◌⊞◌ (Rings.one_mul o R (s (suc t))) (conv-nothing (λ j. power o 0 (suc j)) s t (λ j. power_off 0 (suc j) (λ e. omega arith))) ∙ R.sum_zero (s (suc t))
+  conv-one s zero = Rings.one-mul o R (s 0)
+  conv-one s (suc t) = ap₂ ◌⊞◌ (Rings.one-mul o R (s (suc t))) (conv-nothing (λ j. power o 0 (suc j)) s t (λ j. power_off 0 (suc j) (λ e. omega arith))) ∙ R.sum_zero (s (suc t))
 
   module _ (n : ℕ) (r : ℕ → K) (stop : ℕ) where
     abbrev s₀ : Pairs K

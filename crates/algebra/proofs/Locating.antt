@@ -44,7 +44,7 @@ module _ {K : Type 0} (o : Operations K) (R : Ring o) (x : ℕ → K) where
       → conv o U T t ≡ sums o n (λ i. (a i · locator o D U (x i)) · pow o (x i) (suc t - s - D))
   conv-located n D s r t a U T short h l g =
       DoubleSums.conv-sums o R U T t
-      ∙ DoubleSums.sums_kept o R (suc D) (suc t) (λ j. U j · T (t - j)) (omega arith) (λ j k. ap (λ c. c · T (t - j)) (short j (omega arith)) ∙ Rings.zero_mul o R (T (t - j)))
+      ∙ DoubleSums.sums_kept o R (suc D) (suc t) (λ j. U j · T (t - j)) (omega arith) (λ j k. ap (λ c. c · T (t - j)) (short j (omega arith)) ∙ Rings.zero-mul o R (T (t - j)))
       ∙ Sums.sums_same o (suc D) _ _ (λ j k. each j k)
       ∙ DoubleSums.sums_swap o R (suc D) n (λ j i. U j · (a i · pow o (x i) ((suc t - s - D) + (D - j))))
       ∙ Sums.sums_same o n _ _ (λ i k. point D (suc t - s - D) U (a i) (x i))
@@ -88,11 +88,11 @@ module _ {K : Type 0} (o : Operations K) (R : Ring o) (F : Field o) (x : ℕ →
       start = suc (suc stop) - count n E - D
 
       weighted : (i : ℕ) → i < n → wrong i ≡ false → (b : Bool) → E i ≡ b → a i ≡ 0#
-      weighted i l w true m = ap (λ v. e i · v) (Weights.weight_zero o R x E n i l m) ∙ Rings.mul_zero o R (e i)
-      weighted i l w false m = ap (λ v. v · weight o x E n i) (out i l w m) ∙ Rings.zero_mul o R (weight o x E n i)
+      weighted i l w true m = ap (λ v. e i · v) (Weights.weight_zero o R x E n i l m) ∙ Rings.mul-zero o R (e i)
+      weighted i l w false m = ap (λ v. v · weight o x E n i) (out i l w m) ∙ Rings.zero-mul o R (weight o x E n i)
 
       rest : (i : ℕ) → i < n → wrong i ≡ false → a i · W i ≡ 0#
-      rest i l w = ap (λ v. v · W i) (weighted i l w (E i) refl) ∙ Rings.zero_mul o R (W i)
+      rest i l w = ap (λ v. v · W i) (weighted i l w (E i) refl) ∙ Rings.zero-mul o R (W i)
 
       equations : (t : ℕ) → t < D → sums o n (λ i. (a i · W i) · pow o (x i) (start + t)) ≡ 0#
       equations t g =

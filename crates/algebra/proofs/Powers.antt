@@ -1,5 +1,5 @@
 -- The laws of powers.
-use Rattle.std.proofs.Common.{◌≡◌, ℕ, zero, suc, ◌+◌, ◌*◌, sym, ap, ◌∙◌, mul_comm, suc-add, mul_zero, zero_add, mul-suc}
+use Rattle.std.proofs.Common.{◌≡◌, ℕ, zero, suc, ◌+◌, ◌*◌, sym, ap, ◌∙◌, mul_comm, suc-add, mul-zero, zero-add, mul-suc}
 use Rattle.algebra.specs.Operations.{Operations, Ring, Field}
 use Rattle.algebra.specs.Polynomials.{pow}
 use Rattle.algebra.proofs.Rings
@@ -9,11 +9,11 @@ module _ {K : Type 0} (o : Operations K) (R : Ring o) where
 
   infixl 70 ◌·◌
   pub pow-sum : (x : K) (a b : ℕ) → pow o x (a + b) ≡ pow o x a · pow o x b
-  pow-sum x zero b = ap (pow o x) (zero_add b) ∙ sym (Rings.one_mul o R (pow o x b))
+  pow-sum x zero b = ap (pow o x) (zero-add b) ∙ sym (Rings.one-mul o R (pow o x b))
   pow-sum x (suc a) b = ap (pow o x) (suc-add a b) ∙ ap (λ y. x · y) (pow-sum x a b) ∙ sym (R.prod_assoc x (pow o x a) (pow o x b))
 
   pub pow-product : (x : K) (a b : ℕ) → pow o x (a * b) ≡ pow o (pow o x a) b
-  pow-product x a zero = ap (pow o x) (mul_zero a)
+  pow-product x a zero = ap (pow o x) (mul-zero a)
   pow-product x a (suc b) =
       ap (pow o x) (mul-suc a b) ∙ pow-sum x (a * b) a ∙ R.prod_comm (pow o x (a * b)) (pow o x a)
       ∙ ap (λ y. pow o x a · y) (pow-product x a b)

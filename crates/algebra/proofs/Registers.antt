@@ -67,11 +67,11 @@ module _ {K : Type 0} (o : Operations K) (R : Ring o) where
         Solver.ring o R (value o r (generator o g r) x ∷ pow o x r ∷ []) (search reify depth 30) tt
         ∙ ap (λ a. (value o r (generator o g r) x ⊞ a ⊠ pow o x r) ⊞ neg (pow o x r)) (sym (Generators.generator_top o R g r))
         ∙ ap (λ v. v ⊞ neg (pow o x r)) root
-        ∙ Rings.zero_add o R _
+        ∙ Rings.zero-add o R _
 
     pub register-value : (p : ℕ) → value o r (register o g r d p) x ≡ pow o x r ⊠ horner o d x p
     unfolding register
-    register-value zero = value-nothing x r ∙ sym (Rings.mul_zero o R _)
+    register-value zero = value-nothing x r ∙ sym (Rings.mul-zero o R _)
     register-value (suc p) =
         let held : ℕ → K = register o g r d p in
         let top : K = held (r - 1) in

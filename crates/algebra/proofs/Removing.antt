@@ -17,7 +17,7 @@ sums-one o R zero f i l z = absurd (omega arith)
 sums-one o R (suc n) f i l z = go (eq-or-lt_of_le (le_of_suc-le-suc l)) (λ g. sums-one o R n f i g (λ j k. z j (omega arith)))
   where
     go : (i ≡ n) ⊎ (i < n) → (i < n → sums o n f ≡ f i) → o.sum (sums o n f) (f n) ≡ f i
-    go (inl e) rest = ap₂ o.sum (Sums.sums-zero o R n f (λ j k. z j (omega arith) (omega arith))) (ap f (sym e)) ∙ Rings.zero_add o R (f i)
+    go (inl e) rest = ap₂ o.sum (Sums.sums-zero o R n f (λ j k. z j (omega arith) (omega arith))) (ap f (sym e)) ∙ Rings.zero-add o R (f i)
     go (inr g) rest = ap₂ o.sum (rest g) (z n (omega arith) (omega arith)) ∙ R.sum_zero (f i)
 
 module _ {K : Type 0} (o : Operations K) (R : Ring o) (x : ℕ → K) (P : ℕ → Bool) (i : ℕ) where
@@ -67,9 +67,9 @@ module _ {K : Type 0} (o : Operations K) (R : Ring o) (x : ℕ → K) (P : ℕ �
     where
       go : (b : Bool) → other P i k ≡ b → (j ≡ k) ⊎ (j < k) → (j < k → others o x P i k j ≡ 0#) → cond b (others o x P i k j · (x j ⊞ neg (x k))) (others o x P i k j) ≡ 0#
       go true w (inl e) rest =
-          ap (λ l. others o x P i k j · (x j ⊞ neg (x l))) (sym e) ∙ ap (λ c. others o x P i k j · c) (R.sum_neg (x j)) ∙ Rings.mul_zero o R (others o x P i k j)
+          ap (λ l. others o x P i k j · (x j ⊞ neg (x l))) (sym e) ∙ ap (λ c. others o x P i k j · c) (R.sum_neg (x j)) ∙ Rings.mul-zero o R (others o x P i k j)
       go false w (inl e) rest = absurd (both_ways (other P i k) w (ap (other P i) (sym e) ∙ m))
-      go true w (inr g) rest = ap (λ c. c · (x j ⊞ neg (x k))) (rest g) ∙ Rings.zero_mul o R (x j ⊞ neg (x k))
+      go true w (inr g) rest = ap (λ c. c · (x j ⊞ neg (x k))) (rest g) ∙ Rings.zero-mul o R (x j ⊞ neg (x k))
       go false w (inr g) rest = rest g
 
   -- where only marked points have terms, what is left is the term of i

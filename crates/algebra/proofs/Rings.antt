@@ -8,14 +8,14 @@ module _ {K : Type 0} (o : Operations K) (R : Ring o) where
 
   infixl 60 ◌+◌
   infixl 70 ◌*◌
-  pub zero_add : (a : K) → zero + a ≡ a
-  zero_add a = sum_comm zero a ∙ sum_zero a
+  pub zero-add : (a : K) → zero + a ≡ a
+  zero-add a = sum_comm zero a ∙ sum_zero a
 
   pub neg_add : (a : K) → neg a + a ≡ zero
   neg_add a = sum_comm (neg a) a ∙ sum_neg a
 
-  pub one_mul : (a : K) → one * a ≡ a
-  one_mul a = prod_comm one a ∙ prod_one a
+  pub one-mul : (a : K) → one * a ≡ a
+  one-mul a = prod_comm one a ∙ prod_one a
 
   pub distrib_r : (a b c : K) → (a + b) * c ≡ a * c + b * c
   distrib_r a b c = simp (prod_comm, distributes)
@@ -28,10 +28,10 @@ module _ {K : Type 0} (o : Operations K) (R : Ring o) where
 
   -- cancelling
   pub cancel_l : (a b : K) → neg a + (a + b) ≡ b
-  cancel_l a b = rw (← sum_assoc (neg a) a b, neg_add, zero_add)
+  cancel_l a b = rw (← sum_assoc (neg a) a b, neg_add, zero-add)
 
   pub cancel_r : (a b : K) → a + (neg a + b) ≡ b
-  cancel_r a b = rw (← sum_assoc a (neg a) b, sum_neg, zero_add)
+  cancel_r a b = rw (← sum_assoc a (neg a) b, sum_neg, zero-add)
 
   pub add_inj : (a b c : K) → a + b ≡ a + c → b ≡ c
   add_inj a b c h = sym (cancel_l a b) ∙ ap (λ x. neg a + x) h ∙ cancel_l a c
@@ -39,11 +39,11 @@ module _ {K : Type 0} (o : Operations K) (R : Ring o) where
   pub neg_unique : (a b : K) → a + b ≡ zero → b ≡ neg a
   neg_unique a b h = add_inj a b (neg a) (h ∙ sym (sum_neg a))
 
-  pub mul_zero : (a : K) → a * zero ≡ zero
-  mul_zero a = add_inj (a * zero) (a * zero) zero (sym (distributes a zero zero) ∙ simp sum_zero)
+  pub mul-zero : (a : K) → a * zero ≡ zero
+  mul-zero a = add_inj (a * zero) (a * zero) zero (sym (distributes a zero zero) ∙ simp sum_zero)
 
-  pub zero_mul : (a : K) → zero * a ≡ zero
-  zero_mul a = prod_comm zero a ∙ mul_zero a
+  pub zero-mul : (a : K) → zero * a ≡ zero
+  zero-mul a = prod_comm zero a ∙ mul-zero a
 
   pub neg-zero : neg zero ≡ zero
   neg-zero = sym (neg_unique zero zero (sum_zero zero))
@@ -52,7 +52,7 @@ module _ {K : Type 0} (o : Operations K) (R : Ring o) where
   neg-neg a = sym (neg_unique (neg a) a (neg_add a))
 
   pub mul_neg : (a b : K) → a * neg b ≡ neg (a * b)
-  mul_neg a b = neg_unique (a * b) (a * neg b) (sym (distributes a b (neg b)) ∙ simp (sum_neg, mul_zero))
+  mul_neg a b = neg_unique (a * b) (a * neg b) (sym (distributes a b (neg b)) ∙ simp (sum_neg, mul-zero))
 
   pub neg_mul : (a b : K) → neg a * b ≡ neg (a * b)
   neg_mul a b = simp (prod_comm, mul_neg)
@@ -72,4 +72,4 @@ module _ {K : Type 0} (o : Operations K) (R : Ring o) where
   -- a product with an element that is not zero is zero only where the other factor is
   pub mul_cancel : Field o → (a d : K) → a * d ≡ zero → ¬ (d ≡ zero) → a ≡ zero
   mul_cancel F a d h n =
-      sym (prod_one a) ∙ ap (λ x. a * x) (sym (F.inverse d n)) ∙ sym (prod_assoc a d (inv d)) ∙ ap (λ x. x * inv d) h ∙ zero_mul (inv d)
+      sym (prod_one a) ∙ ap (λ x. a * x) (sym (F.inverse d n)) ∙ sym (prod_assoc a d (inv d)) ∙ ap (λ x. x * inv d) h ∙ zero-mul (inv d)

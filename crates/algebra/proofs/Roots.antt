@@ -28,7 +28,7 @@ module _ {K : Type 0} (o : Operations K) (R : Ring o) where
       ∙ Sums.sums_scaled o R n y (λ j. W (suc j) · pow o y j))
 
   value-zero : (n : ℕ) (W : ℕ → K) (y : K) → ((j : ℕ) → j < n → W j ≡ 0#) → value n W y ≡ 0#
-  value-zero n W y z = Sums.sums-zero o R n (λ j. W j · pow o y j) (λ j l. ap (λ c. c · pow o y j) (z j l) ∙ Rings.zero_mul o R (pow o y j))
+  value-zero n W y z = Sums.sums-zero o R n (λ j. W j · pow o y j) (λ j l. ap (λ c. c · pow o y j) (z j l) ∙ Rings.zero-mul o R (pow o y j))
 
   -- the first of the terms, where the others are zero
   first_zero : (n : ℕ) (W : ℕ → K) (y : K) → value (suc n) W y ≡ 0# → ((j : ℕ) → j < n → W (suc j) ≡ 0#) → W 0 ≡ 0#

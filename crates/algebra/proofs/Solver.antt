@@ -136,7 +136,7 @@ module _ {K : Type 0} (o : Operations K) (R : Ring o) where
         go false ih = ap (λ x. at ρ m * x) ih ∙ Rings.mul_left_comm o R (at ρ m) (at ρ n) (vs ms)
 
     mul_v_ok : (xs ys : List ℕ) → vs (mul_v xs ys) ≡ vs xs * vs ys
-    mul_v_ok [] ys = sym (Rings.one_mul o R (vs ys))
+    mul_v_ok [] ys = sym (Rings.one-mul o R (vs ys))
     mul_v_ok (x ∷ xs) ys = ins_v_ok x (mul_v xs ys) ∙ ap (λ y. at ρ x * y) (mul_v_ok xs ys) ∙ sym (prod_assoc (at ρ x) (vs xs) (vs ys))
 
     sg_mul : (s t : Bool) (x y : K) → sg (beq s t) (x * y) ≡ sg s x * sg t y
@@ -162,11 +162,11 @@ module _ {K : Type 0} (o : Operations K) (R : Ring o) where
     add_m_ok m (p ∷ ps) = go (opp m p) (opp_ok m p) (add_m_ok m ps)
       where
         go : (b : Bool) → (T b → mo m + mo p ≡ 0#) → po (add_m m ps) ≡ mo m + po ps → po (cond b ps (p ∷ add_m m ps)) ≡ mo m + (mo p + po ps)
-        go true h ih = rw (← sum_assoc (mo m) (mo p) (po ps), h tt, Rings.zero_add o R)
+        go true h ih = rw (← sum_assoc (mo m) (mo p) (po ps), h tt, Rings.zero-add o R)
         go false h ih = ap (λ x. mo p + x) ih ∙ Rings.add_left_comm o R (mo p) (mo m) (po ps)
 
     add_p_ok : (p q : List Mono) → po (add_p p q) ≡ po p + po q
-    add_p_ok [] q = sym (Rings.zero_add o R (po q))
+    add_p_ok [] q = sym (Rings.zero-add o R (po q))
     add_p_ok (m ∷ ms) q = add_m_ok m (add_p ms q) ∙ ap (λ x. mo m + x) (add_p_ok ms q) ∙ sym (sum_assoc (mo m) (po ms) (po q))
 
     neg_m_ok : (m : Mono) → mo (neg_m m) ≡ neg (mo m)
@@ -178,11 +178,11 @@ module _ {K : Type 0} (o : Operations K) (R : Ring o) where
     neg_p_ok (m ∷ ms) = ap₂ ◌+◌ (neg_m_ok m) (neg_p_ok ms) ∙ sym (Rings.neg_sum o R (mo m) (po ms))
 
     scale_ok : (m : Mono) (q : List Mono) → po (scale m q) ≡ mo m * po q
-    scale_ok m [] = sym (Rings.mul_zero o R (mo m))
+    scale_ok m [] = sym (Rings.mul-zero o R (mo m))
     scale_ok m (p ∷ ps) = add_m_ok (mul_m m p) (scale m ps) ∙ ap₂ ◌+◌ (mul_m_ok m p) (scale_ok m ps) ∙ sym (distributes (mo m) (mo p) (po ps))
 
     mul_p_ok : (p q : List Mono) → po (mul_p p q) ≡ po p * po q
-    mul_p_ok [] q = sym (Rings.zero_mul o R (po q))
+    mul_p_ok [] q = sym (Rings.zero-mul o R (po q))
     mul_p_ok (m ∷ ms) q = add_p_ok (scale m q) (mul_p ms q) ∙ ap₂ ◌+◌ (scale_ok m q) (mul_p_ok ms q) ∙ sym (Rings.distrib_r o R (mo m) (po ms) (po q))
 
     norm_ok : (e : Expr) → po (norm e) ≡ ⟦ e ⟧ ρ

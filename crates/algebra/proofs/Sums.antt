@@ -33,7 +33,7 @@ module _ {K : Type 0} (o : Operations K) (R : Ring o) where
       ∙ Solver.ring o R (a ∷ b ∷ f n ∷ g n ∷ sums o n f ∷ sums o n g ∷ []) (search reify depth 30 fits 20000) tt
 
   pub sums_scaled : (n : ℕ) (a : K) (f : ℕ → K) → sums o n (λ i. a · f i) ≡ a · sums o n f
-  sums_scaled zero a f = sym (Rings.mul_zero o R a)
+  sums_scaled zero a f = sym (Rings.mul-zero o R a)
   sums_scaled (suc n) a f = ap (λ s. s ⊞ a · f n) (sums_scaled n a f) ∙ sym (R.distributes a (sums o n f) (f n))
 
   -- the first term apart

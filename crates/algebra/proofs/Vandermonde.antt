@@ -53,8 +53,8 @@ module _ {K : Type 0} (o : Operations K) (R : Ring o) (F : Field o) (x : ℕ →
       last e others =
           let p = pow o (x n) start in
           Rings.mul_cancel o R F (a n) p
-          (sym (Rings.zero_add o R (a n · p))
-          ∙ ap (λ s. s ⊞ a n · p) (sym (Sums.sums-zero o R n (λ i. a i · pow o (x i) start) (λ i l. ap (λ c. c · pow o (x i) start) (others i l) ∙ Rings.zero_mul o R (pow o (x i) start))))
+          (sym (Rings.zero-add o R (a n · p))
+          ∙ ap (λ s. s ⊞ a n · p) (sym (Sums.sums-zero o R n (λ i. a i · pow o (x i) start) (λ i l. ap (λ c. c · pow o (x i) start) (others i l) ∙ Rings.zero-mul o R (pow o (x i) start))))
           ∙ e)
           (Powers.pow-nonzero o R F (x n) start (nz n (omega arith)))
 
@@ -69,7 +69,7 @@ module _ {K : Type 0} (o : Operations K) (R : Ring o) (F : Field o) (x : ℕ →
           let own = out n (omega arith) e in
           both (rest M a (λ j g. out j (omega arith)) (omega arith) (λ t g.
           sym (R.sum_zero (moment n a (start + t)))
-          ∙ ap (λ s. moment n a (start + t) ⊞ s) (sym (Rings.zero_mul o R (pow o (x n) (start + t))) ∙ ap (λ c. c · pow o (x n) (start + t)) (sym own))
+          ∙ ap (λ s. moment n a (start + t) ⊞ s) (sym (Rings.zero-mul o R (pow o (x n) (start + t))) ∙ ap (λ c. c · pow o (x n) (start + t)) (sym own))
           ∙ eqs t g))
           own i (eq-or-lt_of_le (le_of_suc-le-suc l))
       go true e zero h eqs rest i l = absurd (omega arith)
@@ -77,7 +77,7 @@ module _ {K : Type 0} (o : Operations K) (R : Ring o) (F : Field o) (x : ℕ →
           let others : (j : ℕ) → j < n → a j ≡ 0# = λ j g.
           Rings.mul_cancel o R F (a j) (x j ⊞ neg (x n))
           (rest M (without (x n) a)
-          (λ k s w. ap (λ c. c · (x k ⊞ neg (x n))) (out k (omega arith) w) ∙ Rings.zero_mul o R (x k ⊞ neg (x n)))
+          (λ k s w. ap (λ c. c · (x k ⊞ neg (x n))) (out k (omega arith) w) ∙ Rings.zero-mul o R (x k ⊞ neg (x n)))
           (omega arith)
           (λ t s. moment_last n a (start + t) (eqs t (omega arith)) (ap (moment (suc n) a) (sym (add-suc start t)) ∙ eqs (suc t) (omega arith)))
           j g)

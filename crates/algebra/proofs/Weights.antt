@@ -17,8 +17,8 @@ module _ {K : Type 0} (o : Operations K) (R : Ring o) (x : ℕ → K) (E : ℕ �
   weight_zero (suc n) i l e = go (E n) refl (eq-or-lt_of_le (le_of_suc-le-suc l)) (λ g. weight_zero n i g e)
     where
       go : (b : Bool) → E n ≡ b → (i ≡ n) ⊎ (i < n) → (i < n → weight o x E n i ≡ 0#) → cond b (weight o x E n i · (x i ⊞ neg (x n))) (weight o x E n i) ≡ 0#
-      go true h (inl k) rest = ap (λ j. weight o x E n i · (x i ⊞ neg (x j))) (sym k) ∙ ap (λ d. weight o x E n i · d) (R.sum_neg (x i)) ∙ Rings.mul_zero o R (weight o x E n i)
-      go true h (inr k) rest = ap (λ w. w · (x i ⊞ neg (x n))) (rest k) ∙ Rings.zero_mul o R (x i ⊞ neg (x n))
+      go true h (inl k) rest = ap (λ j. weight o x E n i · (x i ⊞ neg (x j))) (sym k) ∙ ap (λ d. weight o x E n i · d) (R.sum_neg (x i)) ∙ Rings.mul-zero o R (weight o x E n i)
+      go true h (inr k) rest = ap (λ w. w · (x i ⊞ neg (x n))) (rest k) ∙ Rings.zero-mul o R (x i ⊞ neg (x n))
       go false h (inl k) rest = absurd (both_ways (E i) (ap E k ∙ h) e)
       go false h (inr k) rest = rest k
 

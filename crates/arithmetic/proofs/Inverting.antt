@@ -1,5 +1,5 @@
 -- The iteration on the bits of a Hankel system solves it.
-use Rattle.std.proofs.Common.{◌≡◌, ℕ, zero, suc, ◌+◌, ◌-◌, ◌*◌, ◌%◌, ◌^◌, ◌<◌, ◌≤◌, Bool, true, false, cond, ltb, List, length, get_or, sym, refl, ap, ◌∙◌, subst, ap₂, mul_comm, zero_mul, arith, ltb-true}
+use Rattle.std.proofs.Common.{◌≡◌, ℕ, zero, suc, ◌+◌, ◌-◌, ◌*◌, ◌%◌, ◌^◌, ◌<◌, ◌≤◌, Bool, true, false, cond, ltb, List, length, get_or, sym, refl, ap, ◌∙◌, subst, ap₂, mul_comm, zero-mul, arith, ltb-true}
 use mathlib.Core.Path.{fun_ext}
 use Rattle.algebra.specs.Binary.{bit, value, Degree, NoFactor}
 use Rattle.algebra.specs.Codes.{modulo}
@@ -67,7 +67,7 @@ module _ (F m : ℕ) (hF : Degree F m) (two : 2 ≤ m) (none : NoFactor F m) (a 
         let t = 2 * m - 2 - i in
         ap (λ (x : ℕ). x % 2)
         (total_ext m (λ j. hankel F m a (i + j) * bit solution j) (λ j. U j * r (t - j)) at
-        ∙ sym (total_past m (suc t) (λ j. U j * r (t - j)) (omega arith) (λ j h. ap (λ (x : ℕ). x * r (t - j)) (it.held.small_multiplier.beyond j (omega arith)) ∙ zero_mul (r (t - j)))))
+        ∙ sym (total_past m (suc t) (λ j. U j * r (t - j)) (omega arith) (λ j h. ap (λ (x : ℕ). x * r (t - j)) (it.held.small_multiplier.beyond j (omega arith)) ∙ zero-mul (r (t - j)))))
         ∙ sym (conv-total U r t)
       where
         at : (j : ℕ) → j < m → hankel F m a (i + j) * bit solution j ≡ U j * r (2 * m - 2 - i - j)

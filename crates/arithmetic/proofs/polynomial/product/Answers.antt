@@ -1,5 +1,5 @@
 -- What the proof of `polynomial::product` leaves to be shown.
-use Rattle.std.proofs.Common.{◌≡◌, ℕ, ◌+◌, ◌*◌, ◌/◌, ◌%◌, ◌^◌, sym, ap, ◌∙◌, ap₂, mod-lt, add_comm, one_mul, arith, pow_pos, shl_exact}
+use Rattle.std.proofs.Common.{◌≡◌, ℕ, ◌+◌, ◌*◌, ◌/◌, ◌%◌, ◌^◌, sym, ap, ◌∙◌, ap₂, mod-lt, add_comm, one-mul, arith, pow_pos, shl_exact}
 use native.Mathlib.Nat.{mod-one}
 use lib.Bits.{bit_xor, bit_and, and_mask, xor_shifted, xor_comm}
 use lib.Pow.{mod-pow-add}
@@ -17,7 +17,7 @@ set_more : (a b i : ℕ) → bit_and (b / 2 ^ i) 1 ≡ 1 → times a (b % 2 ^ (i
 set_more a b i e =
     ap (times a) (low-more b i ∙ ap (λ (x : ℕ). x * 2 ^ i + b % 2 ^ i) e ∙ sym (xor_shifted 1 i (b % 2 ^ i) (mod-lt b (pow_pos i))))
     ∙ times_xor_r a (1 * 2 ^ i) (b % 2 ^ i)
-    ∙ ap (λ (x : ℕ). bit_xor x (times a (b % 2 ^ i))) (ap (times a) (one_mul (2 ^ i)) ∙ times-pow_r a i)
+    ∙ ap (λ (x : ℕ). bit_xor x (times a (b % 2 ^ i))) (ap (times a) (one-mul (2 ^ i)) ∙ times-pow_r a i)
     ∙ xor_comm (a * 2 ^ i) (times a (b % 2 ^ i))
 
 clear-more : (a b i : ℕ) → bit_and (b / 2 ^ i) 1 ≡ 0 → times a (b % 2 ^ (i + 1)) ≡ times a (b % 2 ^ i)

@@ -5,7 +5,7 @@ use Rattle.algebra.specs.Operations.{Operations}
 use Rattle.algebra.specs.Codes.{coded}
 use Rattle.algebra.specs.Points.{folded}
 use Rattle.algebra.specs.Polynomials.{less}
-use Rattle.algebra.proofs.Rings.{mul_zero, neg-zero}
+use Rattle.algebra.proofs.Rings.{mul-zero, neg-zero}
 use Rattle.arithmetic.specs.Meaning.{Meaning, Lawful, Codes}
 use Rattle.reading.specs.Working.{at, marked}
 use Rattle.reading.proofs.suspects.fold.Goals as goal
@@ -16,7 +16,7 @@ kept : (m : Meaning) → Lawful m → (a x : ℕ) → a < m.size → x < m.size 
 kept m L a x ha hx =
     let o : Operations (Fin m.size) = coded m.size m.codes L.closed in
     let u : Fin m.size = (a, ha) in
-    ap (λ v. v.0) (sym (ap (o.sum u) (ap o.neg (mul_zero o L.ring (x, hx)) ∙ neg-zero o L.ring) ∙ L.ring.sum_zero u))
+    ap (λ v. v.0) (sym (ap (o.sum u) (ap o.neg (mul-zero o L.ring (x, hx)) ∙ neg-zero o L.ring) ∙ L.ring.sum_zero u))
 
 module _ (m : Meaning) (points smudges before : List ℕ) where
   -- the power sums after the marked points below p

@@ -1,5 +1,5 @@
 -- What the proof of `field::BinaryField::coordinate` leaves to be shown.
-use Rattle.std.proofs.Common.{◌≡◌, ℕ, ◌+◌, ◌-◌, ◌*◌, ◌%◌, ◌<◌, ◌≤◌, cond, List, length, get_or, take, drop, sym, ap, ◌∙◌, subst, ap₂, zero_add, arith, length-drop, length-take, get_or-drop, get_or-take, le-ltb}
+use Rattle.std.proofs.Common.{◌≡◌, ℕ, ◌+◌, ◌-◌, ◌*◌, ◌%◌, ◌<◌, ◌≤◌, cond, List, length, get_or, take, drop, sym, ap, ◌∙◌, subst, ap₂, zero-add, arith, length-drop, length-take, get_or-drop, get_or-take, le-ltb}
 use Rattle.algebra.specs.Binary.{bit}
 use Rattle.algebra.specs.Coordinates.{total}
 use Rattle.algebra.proofs.HankelCoordinates.{total_ext}
@@ -37,7 +37,7 @@ returns-else-j-m c =
     let h = c.if-j-m.false in
     let row = last xs m in
     let same : total m (λ i. bit F (0 + i) * get_or row i 0) ≡ total m (λ i. bit F i * get_or xs (length xs - m + i) 0)
-    = total_ext m (λ i. bit F (0 + i) * get_or row i 0) (λ i. bit F i * get_or xs (length xs - m + i) 0) (λ i l. ap₂ (λ (u v : ℕ). bit F u * v) (zero_add i) (last-at xs m i h l)) in
+    = total_ext m (λ i. bit F (0 + i) * get_or row i 0) (λ i. bit F i * get_or xs (length xs - m + i) 0) (λ i l. ap₂ (λ (u v : ℕ). bit F u * v) (zero-add i) (last-at xs m i h l)) in
     let value : c.weighed-else-j-m.result ≡ total m (λ i. bit F (0 + i) * get_or row i 0)
     = subst (λ (n : ℕ). c.weighed-else-j-m.result ≡ total n (λ i. bit F (0 + i) * get_or row i 0)) (last-length xs m h) c.weighed-else-j-m.ensures.value in
     ap (λ (x : ℕ). x % 2) (value ∙ same)
