@@ -1,4 +1,6 @@
 // Arithmetics of label characters.
+#![tactic(auto)]
+
 mod field;
 mod interface;
 mod iteration;

@@ -1,4 +1,6 @@
 // Answers queries about binary fields, one a line.
+#![tactic(auto)]
+
 mod answer;
 mod element;
 mod query;

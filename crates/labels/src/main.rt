@@ -1,4 +1,6 @@
 // Prints the labels of doors and reads labels, one a line.
+#![tactic(auto)]
+
 mod answer;
 mod current;
 mod found;

@@ -1,4 +1,6 @@
 // Reading labels that are smudged.
+#![tactic(auto)]
+
 mod cell;
 mod cells;
 mod filling;

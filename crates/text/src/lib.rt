@@ -1,4 +1,6 @@
 // Reading bytes: lines, parts between separators, and decimal numbers; and writing numbers in a row.
+#![tactic(auto)]
+
 ghost use Rattle.std.specs.Prelude.{◌≡◌, ℕ, ◌<◌, length, Some, MatchOption};
 ghost use Rattle.std.specs.Option.{SomeIff};
 ghost use Rattle.text.specs.Numerals.{Numeral, Two, value};
