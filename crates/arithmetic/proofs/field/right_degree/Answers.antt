@@ -4,8 +4,8 @@ use Rattle.algebra.proofs.BinaryDegrees.{degree-one}
 use Rattle.arithmetic.proofs.field.right_degree.Goals as goal
 
 -- 0 has no degree
-pub returns-in-default : goal.returns-in-default
-returns-in-default c m h = omega (arith, c.in-default.ensures, pow_pos m)
+pub returns-in_default : goal.returns-in_default
+returns-in_default c m h = omega (arith, c.in_default.ensures, pow_pos m)
 
 pub returns-then-m-lt2 : goal.returns-then-m-lt2
 returns-then-m-lt2 c m h =

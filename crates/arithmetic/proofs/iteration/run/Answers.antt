@@ -20,8 +20,8 @@ loop-big-init g c =
       omega (arith, c.terms.ensures, terms_le m.codes (tested m.codes L.tests) n r),
     )
 
-pub iterate-once-progress-requires : goal.iterate-once-progress-requires
-iterate-once-progress-requires g c =
+pub iterate_once-progress-requires : goal.iterate_once-progress-requires
+iterate_once-progress-requires g c =
     let a = c.args.arithmetic.now in
     let m = g.A.Arithmetic.meaning a in
     let L = g.met.A.Arithmetic.lawful a in
@@ -46,7 +46,7 @@ loop-big-smaller g c =
     let m = g.A.Arithmetic.meaning a in
     let sm = c.args.small.now in
     let l = c.loop-big in
-    let o = c.iterate-once-progress in
+    let o = c.iterate_once-progress in
     let next = Runs.next m (g.met.A.Arithmetic.lawful a) (length sm) (polynomial_of sm) c.requires.codes c.args.stop l.progress.count l.progress.big l.progress.small
     l.big l.big_multiplier l.small l.small_multiplier l.invariant.0 (omega (arith, c.loop-big-test.ensures)) o.result.big o.result.small (length l.small) (length l.small_multiplier)
     o.new.big o.new.big_multiplier o.new.small o.new.small_multiplier o.ensures.once (omega arith) (omega arith) in
@@ -58,7 +58,7 @@ loop-big-preserved g c =
     let m = g.A.Arithmetic.meaning a in
     let sm = c.args.small.now in
     let l = c.loop-big in
-    let o = c.iterate-once-progress in
+    let o = c.iterate_once-progress in
     let next = Runs.next m (g.met.A.Arithmetic.lawful a) (length sm) (polynomial_of sm) c.requires.codes c.args.stop l.progress.count l.progress.big l.progress.small
     l.big l.big_multiplier l.small l.small_multiplier l.invariant.0 (omega (arith, c.loop-big-test.ensures)) o.result.big o.result.small (length l.small) (length l.small_multiplier)
     o.new.big o.new.big_multiplier o.new.small o.new.small_multiplier o.ensures.once (omega arith) (omega arith) in

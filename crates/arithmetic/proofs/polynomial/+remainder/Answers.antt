@@ -33,12 +33,12 @@ returns-in-Some-degree t c =
 own : (a b n : ℕ) → Degree b n → a < 2 ^ n → a ≡ remainder a b
 own a b n h l = remainder_is b n h a a (leaves_self a b n h l)
 
-pub returns-in-default-degree : goal.returns-in-default-degree
-returns-in-default-degree t c =
+pub returns-in_default-degree : goal.returns-in_default-degree
+returns-in_default-degree t c =
     own c.args.a c.args.b c.in-Some.n c.in-Some.ensures.1
     (lt_of_lt_of_le c.in-Some-degree.ensures.1.1 (pow_mono c.if-m-n.false))
 
-pub returns-in-default-degree·2 : goal.returns-in-default-degree·2
-returns-in-default-degree·2 t c =
-    let z : c.args.a ≡ 0 = c.in-default-degree.ensures in
+pub returns-in_default-degree-2 : goal.returns-in_default-degree-2
+returns-in_default-degree-2 t c =
+    let z : c.args.a ≡ 0 = c.in_default-degree.ensures in
     own c.args.a c.args.b c.in-Some.n c.in-Some.ensures.1 (omega (arith, pow_pos c.in-Some.n))

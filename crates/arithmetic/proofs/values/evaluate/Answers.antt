@@ -23,9 +23,9 @@ whole m L row x i v all code codes e =
 pub loop-c-preserved : goal.loop-c-preserved
 loop-c-preserved g c =
     let m = g.A.Arithmetic.meaning c.args.arithmetic.now in
-    let p = c.in-ok-product.ensures in
-    let s = c.in-ok-value.ensures in (
-      next m.codes c.args.x c.loop-c.c-index c.loop-c.value c.in-ok-product.field-0 c.in-ok-value.value c.args.row.now
+    let p = c.in_ok-product.ensures in
+    let s = c.in_ok-value.ensures in (
+      next m.codes c.args.x c.loop-c.c-index c.loop-c.value c.in_ok-product.field-0 c.in_ok-value.value c.args.row.now
           c.loop-c.invariant.0 p.3 s.3,
       s.2,
       search rules,

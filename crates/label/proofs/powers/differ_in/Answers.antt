@@ -14,5 +14,5 @@ told m n row len is false (i, j, ij, jn, e) = λ d. let l : j < n = omega arith 
 
 pub returns : goal.returns
 returns g c =
-    told (g.A.Arithmetic.meaning c.args.arithmetic.now) (length c.args.row.now) c.write-powers.new.row c.write-powers.auto.row c.write-powers.ensures
-    c.all-different.result c.all-different.ensures
+    told (g.A.Arithmetic.meaning c.args.arithmetic.now) (length c.args.row.now) c.write_powers.new.row c.write_powers.auto.row c.write_powers.ensures
+    c.all_different.result c.all_different.ensures

@@ -14,7 +14,7 @@ loop-d-preserved g c =
     let r = length c.fill.new.self in
     let e : r ≡ length c.args.row.now = c.fill.auto.self in
     let l = c.loop-d in
-    let n = c.shift-less in
+    let n = c.shift_less in
     let d : ℕ → ℕ = λ p. get_or c.args.digits.now p 0 in (
       (λ t h. register_next m.codes m.step r l.d-index t (get_or n.new.row t 0) c.sum-factor.result (get_or c.args.generator.now t 0) d l.row h
           (λ i k. l.invariant.0 i k)

@@ -27,12 +27,12 @@ loop-preserved g c =
     (c.product-power.ensures.value ∙ ap (λ (s : ℕ). m.codes.prod s c.loop.power) c.step-step.ensures.0) c.loop.invariant.0
     ∙ ap (pow m.codes m.step) f in
     let l = c.loop in
-    let n = c.shift-less in (
+    let n = c.shift_less in (
       next ∙ ap (pow m.codes m.step) e,
       c.product-power.ensures.code,
       (λ t h. generator_next m.codes m.step (j - 1) (length l.row) c.product-power.result t (get_or n.new.row t 0) l.row (omega (arith, l.auto.row))
           (λ i k. l.invariant.2 i (omega (arith, l.auto.row))) next
-          (n.ensures.value t (omega (arith, l.auto.row)) ∙ ap (λ xs. shifted m.codes l.row c.product-power.result (get_or xs t 0) t) c.copy-from-slice.ensures.after)
+          (n.ensures.value t (omega (arith, l.auto.row)) ∙ ap (λ xs. shifted m.codes l.row c.product-power.result (get_or xs t 0) t) c.copy_from_slice.ensures.after)
           ∙ ap (λ (k : ℕ). generator m.codes m.step k t) e),
       n.ensures.codes,
     )

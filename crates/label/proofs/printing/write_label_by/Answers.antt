@@ -61,16 +61,16 @@ returns g c low =
     let m = g.A.Arithmetic.meaning a in
     let L = g.met.A.Arithmetic.lawful a in
     let row = c.args.row.now in
-    let ds = c.write-digits.new.row in
-    let cs = c.write-checks.new.checks in
+    let ds = c.write_digits.new.row in
+    let cs = c.write_checks.new.checks in
     let k = length ds in
-    let ek : k ≡ length c.args.digits.now = c.write-digits.auto.row in
-    let copied : c.copy-from-slice.new.self ≡ ds = c.copy-from-slice.ensures.after in
+    let ek : k ≡ length c.args.digits.now = c.write_digits.auto.row in
+    let copied : c.copy_from_slice.new.self ≡ ds = c.copy_from_slice.ensures.after in
     let digits : (p : ℕ) → p < k → get_or ds p 0 ≡ digit m.size k c.args.door p
-    = λ p h. c.write-digits.ensures p (omega arith) ∙ ap₂ (λ (q j : ℕ). digit q j c.args.door p) c.size.ensures (sym ek) in
-    let at-copied : length c.copy-from-slice.new.self ≡ k = ap length copied in
-    let er : length (behind row c.copy-from-slice.new.self k) ≡ length row - k = behind-length row c.copy-from-slice.new.self k at-copied (omega arith) in
-    let written = done row ds cs k refl (omega arith) (omega (arith, er, c.write-checks.auto.checks)) m L c.args.door (length (behind row c.copy-from-slice.new.self k)) (omega arith) (omega arith) er digits
-    c.write-checks.ensures (subst (λ (j : ℕ). c.args.door < m.size ^ j) (sym ek) low) in
-    subst (λ (j : ℕ). Label m (length row) (length row - j) (filled row c.copy-from-slice.new.self cs k) × (door m.size j (filled row c.copy-from-slice.new.self cs k) ≡ c.args.door)) ek
+    = λ p h. c.write_digits.ensures p (omega arith) ∙ ap₂ (λ (q j : ℕ). digit q j c.args.door p) c.size.ensures (sym ek) in
+    let at-copied : length c.copy_from_slice.new.self ≡ k = ap length copied in
+    let er : length (behind row c.copy_from_slice.new.self k) ≡ length row - k = behind-length row c.copy_from_slice.new.self k at-copied (omega arith) in
+    let written = done row ds cs k refl (omega arith) (omega (arith, er, c.write_checks.auto.checks)) m L c.args.door (length (behind row c.copy_from_slice.new.self k)) (omega arith) (omega arith) er digits
+    c.write_checks.ensures (subst (λ (j : ℕ). c.args.door < m.size ^ j) (sym ek) low) in
+    subst (λ (j : ℕ). Label m (length row) (length row - j) (filled row c.copy_from_slice.new.self cs k) × (door m.size j (filled row c.copy_from_slice.new.self cs k) ≡ c.args.door)) ek
     (subst (λ (xs : List ℕ). Label m (length row) (length row - k) (filled row xs cs k) × (door m.size k (filled row xs cs k) ≡ c.args.door)) (sym copied) written)

@@ -19,8 +19,8 @@ agrees s a b e = grind (arith, nat_tests)
 smudged : (s a b : ℕ) → ¬ (s ≡ 0) → tested s a b ≡ false
 smudged s a b h = grind (arith, nat_tests)
 
-pub overflow-add-count : goal.overflow-add-count
-overflow-add-count c =
+pub overflow_add-count : goal.overflow_add-count
+overflow_add-count c =
     let most = count_most c.loop-p.p (wrong c.args.cells.now c.args.smudges.now c.args.row.now) in
     record { fits = omega arith }
 

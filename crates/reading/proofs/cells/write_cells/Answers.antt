@@ -42,8 +42,8 @@ code-left o x q y e h below = (subst (λ u. Taken u y 0) (sym (ap Some h) ∙ e)
 smudge-left : (o : Option Cell) (x : Cell) → Some x ≡ o → x ≡ Smudge → Taken o 0 1
 smudge-left o x e h = subst (λ u. Taken u 0 1) (sym (ap Some h) ∙ e) (refl, refl)
 
-pub overflow-add-count : goal.overflow-add-count
-overflow-add-count g c =
+pub overflow_add-count : goal.overflow_add-count
+overflow_add-count g c =
     let most = count_most c.loop-p.p (marked c.loop-p.smudges) in
     record { fits = omega arith }
 

@@ -7,7 +7,7 @@ pub returns : goal.returns
 returns g c d label near =
     let a = c.args.arithmetic.now in
     mended (g.A.Arithmetic.meaning a) (g.met.A.Arithmetic.lawful a) _ c.args.points.now c.args.smudges.now c.args.sums.now
-    c.find-suspects.new.suspects c.args.row.now c.fill.new.row
+    c.find_suspects.new.suspects c.args.row.now c.fill.new.row
     (record {
       length_points = refl;
       length_smudges = c.requires.lengths.1;
@@ -17,6 +17,6 @@ returns g c d label near =
       sum_codes = c.requires.sum_codes;
       codes = c.requires.codes;
       sums_are = c.requires.sums;
-      suspected = c.find-suspects.ensures;
+      suspected = c.find_suspects.ensures;
       filled = c.fill.ensures.filled;
     }) d label near

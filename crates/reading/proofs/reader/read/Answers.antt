@@ -6,8 +6,8 @@ pub returns : goal.returns
 returns g c =
     let scheme = c.args.scheme.now in
     record {
-      answers = c.read-by.ensures.answers;
-      unchanged = c.read-by.ensures.unchanged;
+      answers = c.read_by.ensures.answers;
+      unchanged = c.read_by.ensures.unchanged;
       zero = c.drop-guard.ensures;
-      printed = read_back (g.A.Arithmetic.meaning scheme.arithmetic) (g.met.A.Arithmetic.lawful scheme.arithmetic) _ _ _ _ _ _ c.read-by.result _ c.read-by.ensures.answers;
+      printed = read_back (g.A.Arithmetic.meaning scheme.arithmetic) (g.met.A.Arithmetic.lawful scheme.arithmetic) _ _ _ _ _ _ c.read_by.result _ c.read_by.ensures.answers;
     }

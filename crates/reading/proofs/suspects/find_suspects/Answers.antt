@@ -16,6 +16,6 @@ returns g c =
     iterated_suspects m (g.met.A.Arithmetic.lawful a) _ c.args.count c.args.points.now c.args.smudges.now c.args.sums.now
     c.fold.new.sums c.mark.new.suspects c.unwrap.result c.iterate.new.big c.iterate.new.big_multiplier c.iterate.new.small c.iterate.new.small_multiplier _
     known.2 known.1.3 c.iterate.auto.small_multiplier c.requires.lengths.1 c.requires.count.0 c.requires.count.1 c.requires.lengths.3
-    c.stop-at-stop.ensures.0 c.stop-at-stop.ensures.1 c.requires.points c.requires.codes
-    (subst (λ s. Folded m c.args.points.now c.args.smudges.now s c.fold.new.sums) c.copy-from-slice.ensures.after c.fold.ensures.folded)
+    c.stop_at-stop.ensures.0 c.stop_at-stop.ensures.1 c.requires.points c.requires.codes
+    (subst (λ s. Folded m c.args.points.now c.args.smudges.now s c.fold.new.sums) c.copy_from_slice.ensures.after c.fold.ensures.folded)
     c.mark.ensures

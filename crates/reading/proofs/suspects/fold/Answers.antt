@@ -62,9 +62,9 @@ loop-p-preserved g c =
     elim c.if-smudges-p-ne0.branch [
       | then-smudges-p-ne0 w ↦
           subst (Keeps m points smudges before (p + 1)) (sym w.sums-is) (
-            folded-in m points smudges before (g.met.A.Arithmetic.lawful a) p row w.fold-in.new.sums c.loop-p.invariant
-                c.loop-p.auto.sums (c.requires.points p (omega arith)) w.if-smudges-p-ne0.true w.fold-in.ensures.first w.fold-in.ensures.later,
-            w.fold-in.ensures.codes,
+            folded-in m points smudges before (g.met.A.Arithmetic.lawful a) p row w.fold_in.new.sums c.loop-p.invariant
+                c.loop-p.auto.sums (c.requires.points p (omega arith)) w.if-smudges-p-ne0.true w.fold_in.ensures.first w.fold_in.ensures.later,
+            w.fold_in.ensures.codes,
           )
       | else-smudges-p-ne0 w ↦ subst (Keeps m points smudges before (p + 1)) (sym w.sums-is) (unmarked m points smudges before p row c.loop-p.invariant w.if-smudges-p-ne0.false)
     ]

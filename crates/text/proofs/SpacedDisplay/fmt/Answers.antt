@@ -14,7 +14,7 @@ loop-n-preserved g c = λ plain.
     let before = c.loop-n.invariant plain in
     has_written_of_eq _ _ _ _ c.write.new.self (spaced_more row i c.loop-n-test.true)
     (has_written_append _ _ _ c.loop-n.f (32 ∷ decimal (get_or row i 0)) c.write.new.self before
-    (c.in-ok-write.ensures.shows before.plain (refl {a = true})))
+    (c.in_ok-write.ensures.writes before.plain (refl {a = true})))
 
 pub returns-clause-writes : goal.returns-clause-writes
 returns-clause-writes g c = λ plain _.

@@ -8,8 +8,8 @@ use Rattle.arithmetic.proofs.field.BinaryFieldArithmetic.product.Goals as goal
 low : (F m a r : ℕ) → Degree F m → r ≡ remainder a F → r < 2 ^ m
 low F m a r h e = subst (λ (x : ℕ). x < 2 ^ m) (sym e) (remainder_lt F m h a)
 
-pub overflow-cast-result : goal.overflow-cast-result
-overflow-cast-result c =
+pub overflow_cast-result : goal.overflow_cast-result
+overflow_cast-result c =
     let f = c.args.self.now in
     let l : c.remainder.result < 2 ^ 16
     = lt_of_lt_of_le (low f.polynomial f.degree c.product.result c.remainder.result f.right_degree.0 c.remainder.ensures) (pow_mono f.right_degree.2) in

@@ -9,8 +9,8 @@ use Rattle.arithmetic.proofs.field.inversion.number.Goals as goal
 shifted : (b i : ℕ) → b < 2 → i < 16 → (b * 2 ^ i) % 2 ^ 32 ≡ b * 2 ^ i
 shifted b i h l = shl_exact 1 i 32 h (omega arith)
 
-pub overflow-add-sum : goal.overflow-add-sum
-overflow-add-sum c =
+pub overflow_add-sum : goal.overflow_add-sum
+overflow_add-sum c =
     let i = c.loop-i.i in
     let u = polynomial_of c.args.bits.now in
     let e = shifted (u i) i (c.requires.bits i (omega arith)) (omega arith) in

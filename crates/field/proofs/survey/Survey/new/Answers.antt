@@ -5,8 +5,8 @@ use Rattle.arithmetic.specs.Inverting.{Inverts}
 use Rattle.field.proofs.Tallies.{counts_push, few_codes, largest_push, sum_push}
 use Rattle.field.proofs.survey.Survey.new.Goals as goal
 
-pub overflow-add-total : goal.overflow-add-total
-overflow-add-total c =
+pub overflow_add-total : goal.overflow_add-total
+overflow_add-total c =
     let found : Inverts c.args.field.now.polynomial c.args.field.now.degree c.loop-a.a c.unwrap-inverted.result.inverse c.unwrap-inverted.result.iterations = search rules in
     omega (arith, found.bound, c.loop-a.invariant.5, few_codes c.args.field.now.degree c.args.field.now.right_degree.2)
 

@@ -10,5 +10,5 @@ returns g c =
     let L = g.met.A.Arithmetic.lawful c.args.arithmetic in
     let n = c.args.n in
     let k = c.args.k in
-    let different = c.if-not-powers-differ.ensures in
+    let different = c.if-not-powers_differ.ensures in
     record { laid = search rules; labels = (apart m L n (n - k) different, each_door m L n k different (omega arith) (omega arith)) }

@@ -8,7 +8,7 @@ returns g c low scheme =
     let s = c.args.self.now in
     let m = g.A.Arithmetic.meaning s.arithmetic in
     let L = g.met.A.Arithmetic.lawful s.arithmetic in (
-      c.write-label.new.row,
-      label_written m L s.n s.k scheme.different c.args.door (length c.args.codes.now) c.write-label.new.row c.requires.0 c.write-label.ensures (omega (arith, scheme.number_of_doors)),
+      c.write_label.new.row,
+      label_written m L s.n s.k scheme.different c.args.door (length c.args.codes.now) c.write_label.new.row c.requires.0 c.write_label.ensures (omega (arith, scheme.number_of_doors)),
       c.spell.ensures,
     )

@@ -8,12 +8,12 @@ returns g c =
     let s = c.args.self.now in
     let m = g.A.Arithmetic.meaning s.arithmetic in
     let L = g.met.A.Arithmetic.lawful s.arithmetic in
-    let low = c.if-not-has-door.ensures in
+    let low = c.if-not-has_door.ensures in
     let len : length c.args.row.now ≡ s.n = omega arith in
     record {
       printed = (
         omega arith,
         len,
-        (λ scheme. label_written m L s.n s.k scheme.different c.args.door (length c.args.row.now) c.write-label.new.row len c.write-label.ensures (omega (arith, low, scheme.number_of_doors))),
+        (λ scheme. label_written m L s.n s.k scheme.different c.args.door (length c.args.row.now) c.write_label.new.row len c.write_label.ensures (omega (arith, low, scheme.number_of_doors))),
       );
     }

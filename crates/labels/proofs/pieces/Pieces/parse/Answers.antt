@@ -3,11 +3,11 @@ use Rattle.std.proofs.Common.{[], ◌∷◌, ◌++◌, length, ap, arith, length
 use Rattle.labels.proofs.Listing.{alone, begun_more, parted}
 use Rattle.labels.proofs.pieces.Pieces.parse.Goals as goal
 
-pub returns-in-default-piece : goal.returns-in-default-piece
-returns-in-default-piece c = λ numbers listed.
+pub returns-in_default-piece : goal.returns-in_default-piece
+returns-in_default-piece c = λ numbers listed.
     let some = c.loop-left.invariant.1.splits numbers listed in
     let first = (parted _ _ _ some.0 c.in-Some.ensures some.1).0 in
-    c.in-default-piece.ensures first.0 first.1
+    c.in_default-piece.ensures first.0 first.1
 
 pub loop-left-smaller : goal.loop-left-smaller
 loop-left-smaller c = omega (arith, simp length-append at (ap length c.in-Some.ensures.whole))
@@ -20,8 +20,8 @@ loop-left-preserved c =
       c.add.ensures numbers c.loop-left.invariant.2,
     )
 
-pub returns-in-default-piece-2 : goal.returns-in-default-piece-2
-returns-in-default-piece-2 c = λ numbers listed.
+pub returns-in_default-piece-2 : goal.returns-in_default-piece-2
+returns-in_default-piece-2 c = λ numbers listed.
     let some = c.loop-left.invariant.1.splits numbers listed in
-    let only = alone _ some.0 c.in-default.ensures some.1 in
-    c.in-default-piece-2.ensures only.0 only.1
+    let only = alone _ some.0 c.in_default.ensures some.1 in
+    c.in_default-piece-2.ensures only.0 only.1

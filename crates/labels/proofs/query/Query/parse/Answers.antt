@@ -17,11 +17,11 @@ returns-in-None c =
       λ text h. other_word (codes "binary ") (codes "read ") tt _ _ _ e h,
     )
 
-pub returns-in-None-two-numbers : goal.returns-in-None-two-numbers
-returns-in-None-two-numbers c =
-    let e : c.args.line.now ≡ codes "residue " ++ c.in-Some-strip-prefix.rest.now = search rules in (
+pub returns-in-None-two_numbers : goal.returns-in-None-two_numbers
+returns-in-None-two_numbers c =
+    let e : c.args.line.now ≡ codes "residue " ++ c.in-Some-strip_prefix.rest.now = search rules in (
       λ F n k h. other_word (codes "residue ") (codes "binary ") tt _ _ _ e h.1,
-      λ n k h. c.in-None-two-numbers.ensures n k (subst (λ z. Two z n k) (behind _ (codes "residue ") _ _ h.1 e) h.2),
+      λ n k h. c.in-None-two_numbers.ensures n k (subst (λ z. Two z n k) (behind _ (codes "residue ") _ _ h.1 e) h.2),
       λ d h. other_word (codes "residue ") (codes "door ") tt _ _ _ e h.1,
       λ numbers h. other_word (codes "residue ") (codes "scan ") tt _ _ _ e h.1,
       λ text h. other_word (codes "residue ") (codes "read ") tt _ _ _ e h,
@@ -29,9 +29,9 @@ returns-in-None-two-numbers c =
 
 pub returns-in-Some-parse : goal.returns-in-Some-parse
 returns-in-Some-parse c =
-    let e : c.args.line.now ≡ codes "scan " ++ c.in-Some-strip-prefix-3.rest.now = search rules in
+    let e : c.args.line.now ≡ codes "scan " ++ c.in-Some-strip_prefix-3.rest.now = search rules in
     let listed = c.in-Some-parse.ensures in
-    (listed.0, (c.in-Some-strip-prefix-3.rest.now, e, listed.1), listed.2)
+    (listed.0, (c.in-Some-strip_prefix-3.rest.now, e, listed.1), listed.2)
 
-pub returns-in-Some-strip-prefix-4 : goal.returns-in-Some-strip-prefix-4
-returns-in-Some-strip-prefix-4 c = strip_prefix_is Decides-eqb _ (codes "read ") (Some c.in-Some-strip-prefix-4.rest) c.in-Some-strip-prefix-4.ensures.cases
+pub returns-in-Some-strip_prefix-4 : goal.returns-in-Some-strip_prefix-4
+returns-in-Some-strip_prefix-4 c = strip_prefix_is Decides-eqb _ (codes "read ") (Some c.in-Some-strip_prefix-4.rest) c.in-Some-strip_prefix-4.ensures.cases

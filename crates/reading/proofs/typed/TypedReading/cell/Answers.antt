@@ -29,10 +29,10 @@ returns c =
     let none = code-none q b (λ i l e. let same : i ≡ c.in-Some.code = character_once i c.in-Some.code (omega arith) known.0 (e ∙ sym known.1) in omega arith) in
     record { value = sym (plain row q c.args.place (omega arith) (omega arith) c.if-piece-eq-SMUDGE.false ∙ none); code = tt }
 
-pub returns-in-default : goal.returns-in-default
-returns-in-default c =
+pub returns-in_default : goal.returns-in_default
+returns-in_default c =
     let row = c.args.self.now.0.now in
     let q = c.args.q in
     let b = get_or row c.args.place 0 in
-    let none = code-none q b (λ i l e. c.in-default.ensures i (omega arith) e) in
+    let none = code-none q b (λ i l e. c.in_default.ensures i (omega arith) e) in
     record { value = sym (plain row q c.args.place (omega arith) (omega arith) c.if-piece-eq-SMUDGE.false ∙ none); code = tt }
