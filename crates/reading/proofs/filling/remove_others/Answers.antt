@@ -2,7 +2,7 @@
 use Rattle.std.proofs.Common.{add-one, rules}
 use Rattle.reading.proofs.Removing.{passes, removes}
 use Rattle.reading.proofs.filling.remove_others.Goals as goal
-use Rattle.reading.proofs.filling.remove_others.Goals.{then-is-other, else-is-other}
+use Rattle.reading.proofs.filling.remove_others.Goals.{then-is_other, else-is_other}
 
 pub loop-l-preserved : goal.loop-l-preserved
 loop-l-preserved g c =

@@ -19,7 +19,7 @@ returns-in_default g c =
     let known : Known m c.args.scheme.now.n shown (length c.args.worksheet.now) (length c.args.row.now) cells marks = record {
       ready = subst (λ n. Ready m.size n shown (length c.args.worksheet.now) (length c.args.row.now)) c.length-n.ensures
           (subst (λ q. Ready q c.length-n.result shown (length c.args.worksheet.now) (length c.args.row.now)) sized c.in_ok-take.ensures);
-      length_cells = c.write_cells.auto.cells ∙ c.split_at_mut-cells.ensures.front-len ∙ c.length-n.ensures;
+      length_cells = c.write_cells.auto.cells ∙ c.split_at_mut-cells.ensures.front_len ∙ c.length-n.ensures;
       opened = subst (λ q. Opened q shown cells marks) sized opened.1;
     } in
     record {
@@ -39,7 +39,7 @@ returns g c =
     let known : Known m c.args.scheme.now.n shown (length c.args.worksheet.now) (length c.args.row.now) cells marks = record {
       ready = subst (λ n. Ready m.size n shown (length c.args.worksheet.now) (length c.args.row.now)) c.length-n.ensures
           (subst (λ q. Ready q c.length-n.result shown (length c.args.worksheet.now) (length c.args.row.now)) sized c.in_ok-take.ensures);
-      length_cells = c.write_cells.auto.cells ∙ c.split_at_mut-cells.ensures.front-len ∙ c.length-n.ensures;
+      length_cells = c.write_cells.auto.cells ∙ c.split_at_mut-cells.ensures.front_len ∙ c.length-n.ensures;
       opened = subst (λ q. Opened q shown cells marks) sized opened.1;
     } in
     let found = c.in-Some.ensures in
@@ -50,7 +50,7 @@ returns g c =
         answered m (g.met.A.Arithmetic.lawful c.args.scheme.now.arithmetic) _ _ _ shown _ _ cells marks c.find.new.row row _ known found.1 found.0
             c.copy_from_slice.ensures.after
             (c.door_number.ensures ∙ ap (λ q. door q c.door_characters.result row % 2 ^ 32) sized ∙ ap (λ k. door m.size k row % 2 ^ 32) c.door_characters.ensures)
-            (opened.0 ∙ ap (λ j. count j (marked marks)) (c.split_at_mut-cells.ensures.front-len ∙ c.length-n.ensures)),
+            (opened.0 ∙ ap (λ j. count j (marked marks)) (c.split_at_mut-cells.ensures.front_len ∙ c.length-n.ensures)),
       );
       unchanged = tt;
     }
