@@ -15,7 +15,7 @@ pub struct Pieces {
 fn piece(bytes: &[u8]) -> Option<u32>
     ensures { MatchOption result ((n : ℕ) → Piece bytes.now n → ⊥) (Piece bytes.now) }
 {
-    if bytes == b"?" {
+    if bytes == b"?".as_slice() {
         Some(4294967295)
     } else {
         text::number(bytes)
