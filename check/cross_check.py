@@ -17,6 +17,7 @@ sys.dont_write_bytecode = True
 
 import field_program  # noqa: E402
 import labels_program  # noqa: E402
+import readings_program  # noqa: E402
 import selftest  # noqa: E402
 
 ROOT = Path(__file__).resolve().parent.parent
@@ -45,6 +46,7 @@ class Answered(NamedTuple):
 PROGRAMS: dict[str, Program] = {
     "field": Program(lambda: field_program.answer, field_program.make),
     "labels": Program(labels_program.start, labels_program.make),
+    "readings": Program(readings_program.start, readings_program.make),
 }
 
 

@@ -1,7 +1,4 @@
-"""The program `labels`: its answers, and lines to ask it.
-
-The lines that ask for readings are made in reading_lines.py.
-"""
+"""The program `labels`: its answers, and lines to ask it."""
 
 from __future__ import annotations
 
@@ -9,7 +6,6 @@ import re
 from typing import Callable, Iterator, NamedTuple, Optional
 
 from binary_field import Refused, irreducible_of_degree
-from label_readings import SMUDGE, read_pieces
 from label_schemes import (
     MAX_LENGTH,
     RESIDUES,
@@ -19,16 +15,15 @@ from label_schemes import (
     powers_of_step,
 )
 from numbers_from_seed import Numbers
-from reading_lines import reading_lines
 
 LARGEST = (1 << 32) - 1
 NUMBER = re.compile(rb"[0-9]{1,10}")
-# The words that are followed by a set number of numbers, with that number.
+# The words, and how many numbers follow each.
 WORDS = {b"binary": 3, b"residue": 2, b"door": 1}
 SCHEME_WORDS = (b"binary", b"residue")
 
-# Before any scheme line; these have to be the first lines that are not empty.
-NO_SCHEME_YET = ["door 0", "scan 1 2 6 7", "read 1267", "read "]
+# A door before any scheme line; it has to be the first line that is not empty.
+NO_SCHEME_YET = ["door 0"]
 
 WORKED_EXAMPLES = [
     "binary 11 4 2", "door 1", "door 10", "door 23", "door 63", "door 64",
@@ -135,31 +130,27 @@ RESIDUE_SAMPLES = 8
 
 
 class Query(NamedTuple):
-    """A line that is a query: its word and its numbers.
-
-    The numbers of a scan are its pieces, those of a typed entry its bytes.
-    """
+    """A line that is a query: its word and its numbers."""
 
     word: bytes
     numbers: list[int]
 
 
-def parse(line: bytes) -> Optional[Query]:
-    """The query of a line; None for anything else."""
-    word, space, rest = line.partition(b" ")
-    if not space:
-        return None
-    if word == b"read":
-        return Query(word, list(rest))
-    fields = rest.split(b" ")
-    if word == b"scan":
-        fields = [b"%d" % SMUDGE if field == b"?" else field for field in fields]
-    elif WORDS.get(word) != len(fields):
-        return None
+def numbers_of(fields: list[bytes]) -> Optional[list[int]]:
+    """The numbers that fields write; None where one of them writes none."""
     if not all(NUMBER.fullmatch(field) for field in fields):
         return None
     numbers = [int(field) for field in fields]
-    return None if max(numbers) > LARGEST else Query(word, numbers)
+    return None if max(numbers) > LARGEST else numbers
+
+
+def parse(line: bytes) -> Optional[Query]:
+    """The query of a line; None for anything else."""
+    word, *fields = line.split(b" ")
+    if WORDS.get(word) != len(fields):
+        return None
+    numbers = numbers_of(fields)
+    return None if numbers is None else Query(word, numbers)
 
 
 def scheme_of(query: Query) -> Scheme:
@@ -171,24 +162,30 @@ def scheme_of(query: Query) -> Scheme:
     return lay_out(binary_elements(polynomial), n, k)
 
 
-def answer_in(scheme: Scheme, query: Query) -> str:
-    """The answer to a door, a scan or a typed entry, or its refusal."""
-    if query.word == b"door":
-        return scheme.printed(query.numbers[0])
-    found = read_pieces(scheme, query.numbers, typed=query.word == b"read")
-    answer = [found.door, found.wrong, found.smudges, *found.label]
-    return " ".join(str(number) for number in answer)
+def printed(scheme: Scheme, query: Query) -> str:
+    """The label of a door, or its refusal."""
+    return scheme.printed(query.numbers[0])
 
 
 class Run:
-    """One run of the program: it holds the scheme of the last scheme line."""
+    """One run of a program: it holds the scheme of the last scheme line.
 
-    def __init__(self) -> None:
+    The program's `parse` gives the query of a line, and its `answer_in` the
+    answer of a scheme to a query that is no scheme line.
+    """
+
+    def __init__(
+        self,
+        parse: Callable[[bytes], Optional[Query]],
+        answer_in: Callable[[Scheme, Query], str],
+    ) -> None:
+        self._parse = parse
+        self._answer_in = answer_in
         self._scheme: Optional[Scheme] = None
 
     def answer(self, line: bytes) -> Optional[str]:
         """The answer to one line that is not empty; None for no answer."""
-        query = parse(line)
+        query = self._parse(line)
         if query is None:
             return "no query"
         try:
@@ -198,14 +195,14 @@ class Run:
                 return None
             if self._scheme is None:
                 return "no query"
-            return answer_in(self._scheme, query)
+            return self._answer_in(self._scheme, query)
         except Refused as refused:
             return f"refused {refused.number} {refused.place}"
 
 
 def start() -> Callable[[bytes], Optional[str]]:
     """What answers the lines of one run."""
-    return Run().answer
+    return Run(parse, printed).answer
 
 
 def accepted(line: str) -> Optional[Scheme]:
@@ -307,10 +304,9 @@ def sampled(numbers: Numbers) -> Iterator[str]:
             yield from sampled_doors(scheme, count, numbers)
 
 
-def make(seed: int) -> bytes:
-    """The stdin file: all lines, the last one without a line feed."""
-    numbers = Numbers(seed)
-    lines = NO_SCHEME_YET + WORKED_EXAMPLES
+def door_lines(numbers: Numbers) -> list[str]:
+    """Scheme lines, lines that ask for doors, and lines that are no query."""
+    lines = list(WORKED_EXAMPLES)
     lines += no_queries()
     lines += LEADING_ZEROS
     lines += no_scheme_left()
@@ -321,6 +317,10 @@ def make(seed: int) -> bytes:
     lines += largest_lengths()
     lines += sampled(numbers)
     lines += ["binary 11 4 2", "door 10"]
-    lines += reading_lines(numbers)
-    # A typed entry has any bytes: one for each character, by this encoding.
-    return "\n".join(lines).encode("latin-1")
+    return lines
+
+
+def make(seed: int) -> bytes:
+    """The stdin file: all lines, the last one without a line feed."""
+    lines = NO_SCHEME_YET + door_lines(Numbers(seed))
+    return "\n".join(lines).encode("ascii")

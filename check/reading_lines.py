@@ -1,4 +1,4 @@
-"""Lines that ask the program `labels` for readings.
+"""Lines that ask the program `readings` for readings.
 
 A line is a string here.  Each of its characters stands for the byte of the same
 number, from 0 to 255.

@@ -8,6 +8,7 @@ from typing import Callable, Iterator, NamedTuple, Optional, Sequence
 
 import labels_program
 import reading_lines
+import readings_program
 from binary_field import (
     Field,
     MethodsDisagree,
@@ -456,14 +457,14 @@ def check_multiples() -> None:
 
 def check_reading_examples() -> None:
     """The worked examples, the lines that are no query and those beside them."""
-    answer_line = labels_program.start()
+    answer_line = readings_program.start()
     for line, expected in READING_EXAMPLES:
-        expect(answer_line(line.encode()) == expected, f"labels example {line!r}")
+        expect(answer_line(line.encode()) == expected, f"readings example {line!r}")
     for line in reading_lines.NO_QUERIES:
-        query = labels_program.parse(line.encode("latin-1"))
+        query = readings_program.parse(line.encode("latin-1"))
         expect(query is None, f"no query: {line!r}")
     for line in reading_lines.FORMS:
-        query = labels_program.parse(line.encode("latin-1"))
+        query = readings_program.parse(line.encode("latin-1"))
         expect(query is not None, f"a query: {line!r}")
 
 

@@ -1,5 +1,5 @@
 -- Degrees of sums and products.
-use Rattle.std.proofs.Common.{◌≡◌, ℕ, zero, suc, ◌+◌, ◌-◌, ◌*◌, ◌/◌, ◌%◌, ◌^◌, ◌<◌, ◌≤◌, sym, ap, ◌∙◌, subst, ap₂, inl, inr, zero-le, le_trans, le_of_eq, le_refl, lt_of_lt_of_le, add-zero, lt_irrefl, add-suc, mul_assoc, mul_comm, div-lt_iff_lt-mul, eq-zero-or-pos, one-mul, pow-suc, le-div_iff_mul-le, mul-one, arith, pow_pos, pow_mono}
+use Rattle.std.proofs.Common.{◌≡◌, ℕ, zero, suc, ◌+◌, ◌*◌, ◌/◌, ◌%◌, ◌^◌, ◌<◌, ◌≤◌, sym, ap, ◌∙◌, subst, ap₂, inl, inr, zero-le, le_trans, le_of_eq, le_refl, lt_of_lt_of_le, add-zero, lt_irrefl, add-suc, mul_assoc, mul_comm, div-lt_iff_lt-mul, eq-zero-or-pos, one-mul, pow-suc, le-div_iff_mul-le, mul-one, arith, pow_pos, pow_mono}
 use native.Mathlib.Nat.{div-eq_of_lt}
 use native.Mathlib.Decide.{dec_lt}
 use lib.Bits.{bit_xor, xor_comm, xor_assoc, xor_lt, xor_shr}

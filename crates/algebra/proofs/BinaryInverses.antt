@@ -1,5 +1,5 @@
 -- Modulo an F with no factor every code but 0 has an inverse, so no product of two is 0.
-use Rattle.std.proofs.Common.{◌≡◌, ℕ, zero, suc, ◌-◌, ◌^◌, ◌<◌, sym, refl, ap, ◌∙◌, subst, ap₂, le_trans, le_refl, lt_of_lt_of_le, not-suc-le-zero, lt_irrefl, arith, pow_mono}
+use Rattle.std.proofs.Common.{◌≡◌, ℕ, zero, suc, ◌^◌, ◌<◌, sym, refl, ap, ◌∙◌, subst, ap₂, le_trans, le_refl, lt_of_lt_of_le, not-suc-le-zero, lt_irrefl, arith, pow_mono}
 use native.Mathlib.Decide.{dec_lt}
 use lib.Bits.{bit_xor, xor_comm, xor_assoc}
 use Rattle.algebra.specs.Binary.{times, Degree, Divides, NoFactor, remainder}

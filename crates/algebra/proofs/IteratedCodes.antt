@@ -1,5 +1,5 @@
 -- What the iterations keep and give where the coefficients are codes, as numbers.
-use Rattle.std.proofs.Common.{◌≡◌, ℕ, zero, suc, pred, ◌-◌, ◌*◌, ◌<◌, ◌≤◌, eqb, sym, ap, ◌∙◌, arith}
+use Rattle.std.proofs.Common.{◌≡◌, ℕ, suc, pred, ◌-◌, ◌*◌, ◌<◌, ◌≤◌, eqb, sym, ap, ◌∙◌, arith}
 use Prim.Native.Nat.{Fin}
 use Rattle.algebra.specs.Operations.{Operations, Ring, Field, Tested}
 use Rattle.algebra.specs.Codes.{Closed, coded}

@@ -1,10 +1,8 @@
 -- The value of a polynomial at a point.
 use Rattle.std.proofs.Common.{◌≡◌, ℕ, zero, suc, ◌+◌, ◌<◌, [], ◌∷◌, ap, ◌∙◌, ap₂, add-zero, add-suc}
-use native.Mathlib.Nat as laws
 use Rattle.algebra.specs.Operations.{Operations, Ring}
 use Rattle.algebra.specs.Polynomials.{delay, pow, sums}
 use Rattle.algebra.proofs.Powers
-use Rattle.algebra.proofs.Rings
 use Rattle.algebra.proofs.Sums.{sums_same}
 use Rattle.algebra.proofs.Solver.{reify}
 use Rattle.algebra.proofs.Solver

@@ -1,5 +1,5 @@
 -- The three arithmetics keep the laws.
-use Rattle.std.specs.Prelude.{◌≡◌, ℕ, ◌^◌, ◌<◌, ◌≤◌, T, ◌≢◌, refl}
+use Rattle.std.specs.Prelude.{ℕ, ◌^◌, ◌<◌, ◌≤◌, T, ◌≢◌, refl}
 use Rattle.std.proofs.Common.{arith, pow_mono}
 use Rattle.algebra.specs.Binary.{NoFactor}
 use Rattle.algebra.proofs.BinaryField

@@ -1,5 +1,5 @@
 -- The numerals of bytes that have three, and the words that a line begins with.
-use Rattle.std.proofs.Common.{◌≡◌, ℕ, Bool, true, false, cond, T, eqb, List, [], ◌∷◌, ◌++◌, sym, refl, ap, ◌∙◌, subst, arith, eq-eqb}
+use Rattle.std.proofs.Common.{◌≡◌, ℕ, List, ◌++◌, codes, sym, ◌∙◌, subst, arith}
 use mathlib.Core.List.{append_cancel_left}
 use Rattle.text.specs.Numerals.{Numeral, Two}
 use Rattle.text.specs.Parts.{Parts}
@@ -14,21 +14,15 @@ three_sides bytes x y l m n p t =
     let same = same_parts 32 bytes t.left t.right x y q p in
     (subst Numeral same.0 t.left_one.numeral, subst (λ z. Two z m n) same.1 t.right_two)
 
--- whether two words differ at a place that both have
-abbrev pub differ : List ℕ → List ℕ → Bool
-differ [] w = false
-differ (b ∷ v) [] = false
-differ (b ∷ v) (c ∷ w) = cond (eqb b c) (differ v w) true
+-- a line begins with one of the words at most
+pub binary_residue : (line a b : List ℕ) → line ≡ codes "binary " ++ a → line ≡ codes "residue " ++ b → ⊥
+binary_residue line a b p q = let heads : ◌≡◌ {A = ℕ} 98 114 = cc in omega arith
 
--- two words that differ do not begin one line
-pub other_word : (v w : List ℕ) → T (differ v w) → (line a b : List ℕ) → line ≡ v ++ a → line ≡ w ++ b → ⊥
-other_word [] w d line a b p q = d
-other_word (x ∷ v) [] d line a b p q = d
-other_word (x ∷ v) (y ∷ w) d line a b p q =
-    let heads : x ≡ y = cc in
-    let tails : v ++ a ≡ w ++ b = cc in
-    let same : eqb x y ≡ true = eq-eqb x y heads in
-    other_word v w (subst T (ap (λ t. cond t (differ v w) true) same) d) (v ++ a) a b refl tails
+pub binary-door : (line a b : List ℕ) → line ≡ codes "binary " ++ a → line ≡ codes "door " ++ b → ⊥
+binary-door line a b p q = let heads : ◌≡◌ {A = ℕ} 98 100 = cc in omega arith
+
+pub residue_door : (line a b : List ℕ) → line ≡ codes "residue " ++ a → line ≡ codes "door " ++ b → ⊥
+residue_door line a b p q = let heads : ◌≡◌ {A = ℕ} 114 100 = cc in omega arith
 
 -- what stands behind a word is one list
 pub behind : (line word a b : List ℕ) → line ≡ word ++ a → line ≡ word ++ b → a ≡ b

@@ -1,4 +1,3 @@
-pub mod Pieces
 pub mod Queries
 pub mod Rows
 pub mod RowTexts

@@ -2,8 +2,7 @@
 use Rattle.std.specs.Prelude.{◌≡◌, ℕ, List, ◌∷◌, ◌++◌, codes}
 use Rattle.text.specs.Numerals.{One, Two}
 use Rattle.labels.specs.declared.query.Query.{Query}
-use Rattle.labels.specs.declared.query.Query.TheVariants.{Binary, Residue, Door, Scan, Read, Unknown}
-use Rattle.labels.specs.Pieces.{Holds, Listed}
+use Rattle.labels.specs.declared.query.Query.TheVariants.{Binary, Residue, Door, Unknown}
 
 -- the bytes are a numeral of l, a space (the byte 32), a numeral of m, a space, and a numeral of n
 pub record Three (bytes : List ℕ) (l m n : ℕ) : Type 0 where
@@ -25,21 +24,10 @@ IsResidue line n k = (rest : List ℕ) × (line ≡ codes "residue " ++ rest) ×
 abbrev pub IsDoor : List ℕ → ℕ → Type 0
 IsDoor line d = (rest : List ℕ) × (line ≡ codes "door " ++ rest) × One rest d
 
--- the line is `scan`, a space, and these pieces with one space between
-abbrev pub IsScan : List ℕ → List ℕ → Type 0
-IsScan line numbers = (rest : List ℕ) × (line ≡ codes "scan " ++ rest) × Listed rest numbers
-
--- the line is `read`, a space, and this text
-abbrev pub IsRead : List ℕ → List ℕ → Type 0
-IsRead line text = line ≡ codes "read " ++ text
-
--- what the line asks: a scheme over the field of F, one over the residues, the door d, a scan, a typed entry, or none of these
+-- what the line asks: a scheme over the field of F, one over the residues, the door d, or none of these
 abbrev pub Asks : List ℕ → Query → Type 0
 Asks line (Binary F n k) = IsBinary line F n k
 Asks line (Residue n k) = IsResidue line n k
 Asks line (Door d) = IsDoor line d
-Asks line (Scan p) = (numbers : List ℕ) × IsScan line numbers × Holds numbers p
-Asks line (Read text) = IsRead line text.now
 Asks line Unknown =
     ((F n k : ℕ) → IsBinary line F n k → ⊥) × ((n k : ℕ) → IsResidue line n k → ⊥) × ((d : ℕ) → IsDoor line d → ⊥)
-    × ((numbers : List ℕ) → IsScan line numbers → ⊥) × ((text : List ℕ) → IsRead line text → ⊥)

@@ -1,15 +1,12 @@
 // What is answered to a line.
-ghost use Rattle.std.specs.Prelude.{length, Some};
+ghost use Rattle.std.specs.Prelude.{Some};
 ghost use Rattle.label.specs.Schemes.{IsScheme};
-ghost use Rattle.reading.specs.Working.{Zero};
-ghost use Rattle.labels.specs.Answers.{OfDoor, OfReading};
-ghost use Rattle.labels.specs.Texts.{answer_text, refused_text};
+ghost use Rattle.labels.specs.Answers.{OfDoor};
+ghost use Rattle.labels.specs.Texts.{answer_text};
 
-use crate::found::FoundLabel;
 use crate::row::{Characters, Codes};
 use arithmetic::Arithmetic;
 use label::Scheme;
-use reading::Reading;
 use std::fmt;
 
 /// What is answered to a line.
@@ -23,11 +20,7 @@ pub enum Answer {
     Text(Characters),
     /// A label as codes.
     Label(Codes),
-    /// A label that was read.
-    Found(FoundLabel),
-    /// No label was read.
-    Unread(reading::Refusal),
-    /// The line asks nothing, or a door or a reading where no scheme holds.
+    /// The line asks nothing, or the label of a door where no scheme holds.
     NoQuery,
 }
 
@@ -48,22 +41,6 @@ impl Answer {
             Err(refusal) => Answer::Refused(refusal),
         }
     }
-
-    /// The answer to a reading: the label within reach with its door, v and s. Refused as reading with this worksheet, into a row of the label's length, is. Every number of the worksheet is 0 afterwards.
-    pub(crate) fn of_reading<A: Arithmetic, R: Reading>(
-        scheme: &Scheme<A>,
-        reading: &R,
-        worksheet: &mut [u32],
-    ) -> Answer
-        requires { IsScheme (A.Arithmetic.meaning scheme.now.arithmetic) scheme.now.n scheme.now.k scheme.now.doors }
-        ensures answers { OfReading (A.Arithmetic.meaning scheme.now.arithmetic) scheme.now.n scheme.now.k scheme.now.doors (R.Reading.shown reading.now) (length worksheet.old) result }
-        ensures zero { Zero worksheet.new }
-    {
-        match FoundLabel::new(scheme, reading, worksheet) {
-            Ok(label) => Answer::Found(label),
-            Err(refusal) => Answer::Unread(refusal),
-        }
-    }
 }
 
 impl fmt::Display for Answer {
@@ -72,36 +49,19 @@ impl fmt::Display for Answer {
 
     fn fmt<W: fmt::Write>(&self, f: &mut fmt::Formatter<W>) -> fmt::Result {
         match *self {
-            Answer::NoField(refusal) => write!(
-                f,
-                "{}",
-                Numbered(refusal.number(), refusal.place())
-            ),
-            Answer::Refused(refusal) => write!(
-                f,
-                "{}",
-                Numbered(refusal.number(), refusal.place())
-            ),
+            Answer::NoField(refusal) => {
+                let number = refusal.number();
+                let place = refusal.place();
+                write!(f, "refused {number} {place}")
+            }
+            Answer::Refused(refusal) => {
+                let number = refusal.number();
+                let place = refusal.place();
+                write!(f, "refused {number} {place}")
+            }
             Answer::Text(label) => write!(f, "{label}"),
             Answer::Label(label) => write!(f, "{label}"),
-            Answer::Found(label) => write!(f, "{label}"),
-            Answer::Unread(refusal) => write!(f, "{}", Numbered(refusal.number(), refusal.place())),
             Answer::NoQuery => write!(f, "no query"),
         }
-    }
-}
-
-/// A refusal's number and place.
-#[derive(Clone, Copy)]
-struct Numbered(u32, u32);
-
-impl fmt::Display for Numbered {
-    // What `{}` writes.
-    ghost output = { λ r. Some (refused_text r.0 r.1) };
-
-    fn fmt<W: fmt::Write>(&self, f: &mut fmt::Formatter<W>) -> fmt::Result {
-        let number = self.0;
-        let place = self.1;
-        write!(f, "refused {number} {place}")
     }
 }

@@ -1,15 +1,12 @@
 // The lines answered in turn, by the scheme that holds.
-ghost use Rattle.std.specs.Prelude.{◌≡◌, length, MatchResult};
-ghost use Rattle.reading.specs.Working.{Zero};
-ghost use Rattle.labels.specs.Answers.{Answers, NoBinary, NoResidue, OfCurrent, OfDoor, OfReading};
+ghost use Rattle.std.specs.Prelude.{◌≡◌, MatchResult};
+ghost use Rattle.labels.specs.Answers.{Answers, NoBinary, NoResidue, OfCurrent};
 
 use crate::answer::Answer;
 use crate::query::Query;
-use crate::row::first_places;
 use crate::scheme::{FieldScheme, ResidueScheme};
 use arithmetic::{BinaryField, Residues};
 use label::Scheme;
-use reading::{Reading, Scan, Typed};
 
 /// The scheme that holds, if there is one.
 #[derive(Drop)]
@@ -49,10 +46,9 @@ fn lay_out_residue(n: u32, k: u32) -> Result<ResidueScheme, Answer>
 impl Current {
     /// What is answered to a query: nothing where a scheme is laid out, which then holds.
     ///
-    /// A query for a scheme that is refused leaves none; any other query leaves the scheme as it was. A reading is refused as reading with this worksheet, into a row of the label's length, is. A worksheet whose numbers are all 0 is so afterwards.
-    pub fn answer(&mut self, query: Query, worksheet: &mut [u32]) -> Option<Answer>
-        ensures answers { Answers (length worksheet.old) self.old query.entry result self.new }
-        ensures zero { Zero worksheet.old → Zero worksheet.new }
+    /// A query for a scheme that is refused leaves none; any other query leaves the scheme as it was.
+    pub fn answer(&mut self, query: Query) -> Option<Answer>
+        ensures { Answers self.old query result self.new }
     {
         match query {
             Query::Binary(f, n, k) => match lay_out_binary(f, n, k) {
@@ -76,35 +72,18 @@ impl Current {
                 }
             },
             Query::Door(door) => Some(self.answer_door(door)),
-            Query::Scan(pieces) => {
-                let scan = Scan(first_places(&pieces.row, pieces.places));
-                Some(self.answer_reading(&scan, worksheet))
-            }
-            Query::Read(text) => Some(self.answer_reading(&Typed(text), worksheet)),
             Query::Unknown => Some(Answer::NoQuery),
         }
     }
 
     /// What is answered to a door.
     fn answer_door(&self, door: u32) -> Answer
-        ensures { OfCurrent self.now (λ m n k doors. OfDoor m n k doors door) result }
+        ensures { OfCurrent self.now door result }
     {
         match self {
             Current::Absent => Answer::NoQuery,
             Current::OverField(laid) => Answer::of_door(&laid.scheme, door),
             Current::OverResidues(laid) => Answer::of_door(&laid.scheme, door),
-        }
-    }
-
-    /// What is answered to a reading. A worksheet whose numbers are all 0 is so afterwards.
-    fn answer_reading<R: Reading>(&self, reading: &R, worksheet: &mut [u32]) -> Answer
-        ensures answers { OfCurrent self.now (λ m n k doors. OfReading m n k doors (R.Reading.shown reading.now) (length worksheet.old)) result }
-        ensures zero { Zero worksheet.old → Zero worksheet.new }
-    {
-        match self {
-            Current::Absent => Answer::NoQuery,
-            Current::OverField(laid) => Answer::of_reading(&laid.scheme, reading, worksheet),
-            Current::OverResidues(laid) => Answer::of_reading(&laid.scheme, reading, worksheet),
         }
     }
 }

@@ -1,10 +1,8 @@
-// Prints the labels of doors and reads labels, one a line.
+// Prints the labels of doors, one a line.
 #![tactic(auto)]
 
 mod answer;
 mod current;
-mod found;
-mod pieces;
 mod query;
 mod row;
 mod scheme;
@@ -21,12 +19,11 @@ fn main(rt: HostRuntime) -> io::Result<()> {
     rt.stdin().read_to_end(&mut input)?;
     let mut output = Vec::new(rt.alloc());
     let mut current = Current::Absent;
-    let worksheet: &mut [u32] = &mut [0; 1024];
     for line in Lines::new(input.as_slice()) {
         if line.is_empty() {
             continue;
         }
-        if let Some(answer) = current.answer(Query::parse(line), worksheet) {
+        if let Some(answer) = current.answer(Query::parse(line)) {
             writeln!(output, "{answer}")?;
         }
     }

@@ -2,21 +2,15 @@
 ghost use Rattle.std.specs.Prelude.{ℕ, MatchOption};
 ghost use Rattle.labels.specs.Queries.{Asks, Three};
 
-use crate::pieces::Pieces;
-
 /// What a line asks.
 #[derive(Clone, Copy)]
-pub enum Query<'a> {
+pub enum Query {
     /// `binary F n k`: a scheme over the field of F, with labels of n characters, k of them for the door.
     Binary(u32, u32, u32),
     /// `residue n k`: a scheme over the residues modulo 37.
     Residue(u32, u32),
     /// `door D`: the label of door D.
     Door(u32),
-    /// `scan C C ..`: the scan of these pieces.
-    Scan(Pieces),
-    /// `read TEXT`: the typed entry of the bytes of TEXT.
-    Read(&'a [u8]),
     /// Anything else.
     Unknown,
 }
@@ -37,11 +31,9 @@ fn three_numbers(bytes: &[u8]) -> Option<(u32, u32, u32)>
     Some((l, m, n))
 }
 
-impl<'a> Query<'a> {
+impl Query {
     /// The query that a line asks: a word, then its numbers, each of one to ten digits and below 2^32, with one space before each.
-    ///
-    /// Behind `scan` a number may also be `?`, and behind `read` and one space stands any text.
-    pub fn parse(line: &'a [u8]) -> Query<'a>
+    pub fn parse(line: &[u8]) -> Query
         ensures { Asks line.now result }
     {
         if let Some(rest) = line.strip_prefix(b"binary ") {
@@ -61,15 +53,6 @@ impl<'a> Query<'a> {
                 Some(d) => Query::Door(d),
                 None => Query::Unknown,
             };
-        }
-        if let Some(rest) = line.strip_prefix(b"scan ") {
-            return match Pieces::parse(rest) {
-                Some(pieces) => Query::Scan(pieces),
-                None => Query::Unknown,
-            };
-        }
-        if let Some(rest) = line.strip_prefix(b"read ") {
-            return Query::Read(rest);
         }
         Query::Unknown
     }

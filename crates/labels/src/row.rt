@@ -1,5 +1,5 @@
 // Labels in rows of a fixed size.
-ghost use Rattle.std.specs.Prelude.{◌≡◌, ◌<◌, ◌≤◌, take, Some, MatchResult};
+ghost use Rattle.std.specs.Prelude.{◌<◌, ◌≤◌, Some, MatchResult};
 ghost use Rattle.std.proofs.Math.Utf8.{encodes};
 ghost use Rattle.label.specs.Schemes.{IsScheme, NotPrinted, NotTyped};
 ghost use Rattle.labels.specs.Rows.{CodesOf, TextOf};
@@ -26,17 +26,6 @@ pub struct Codes {
     pub row: [u32; 64],
     /// How many codes there are.
     pub places: usize,
-}
-
-/// The first places of a row: this many, or all where it has no more.
-pub(crate) fn first_places<T>(row: &[T], places: usize) -> &[T]
-    ensures { result.now ≡ take places row.now }
-{
-    if places < row.len() {
-        &row[0..places]
-    } else {
-        row
-    }
 }
 
 impl Characters {
@@ -70,7 +59,7 @@ impl fmt::Display for Characters {
     ghost output = { λ t. Some (characters_text t) };
 
     fn fmt<W: fmt::Write>(&self, f: &mut fmt::Formatter<W>) -> fmt::Result {
-        let spelled = Spelled(first_places(&self.row, self.places));
+        let spelled = Spelled(&self.row[0..self.places.min(self.row.len())]);
         write!(f, "{spelled}")
     }
 }
@@ -80,7 +69,8 @@ impl fmt::Display for Codes {
     ghost output = { λ t. Some (codes_text t) };
 
     fn fmt<W: fmt::Write>(&self, f: &mut fmt::Formatter<W>) -> fmt::Result {
-        let Some((first, rest)) = first_places(&self.row, self.places).split_first() else {
+        let row = &self.row[0..self.places.min(self.row.len())];
+        let Some((first, rest)) = row.split_first() else {
             return Ok(());
         };
         let rest = Spaced(rest);

@@ -18,7 +18,6 @@ use Rattle.arithmetic.specs.Meaning.{Meaning, Lawful, Codes}
 use Rattle.algebra.specs.Iteration.{after}
 use Rattle.arithmetic.specs.Rows.{Holds, Iterated, polynomial_of, width}
 use Rattle.label.specs.Labels.{Different, Label, power_sum}
-use Rattle.label.proofs.Apart
 use Rattle.reading.specs.Working.{Folded, Near, Points, PowerSums, Suspects, at, marked, suspect, wrong}
 use Rattle.reading.proofs.Places.{entry}
 use Rattle.reading.proofs.Places

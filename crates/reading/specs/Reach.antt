@@ -1,5 +1,5 @@
 -- How far a label is from a reading.
-use Rattle.std.specs.Prelude.{ℕ, ◌+◌, ◌-◌, ◌*◌, ◌≤◌, Bool, true, false, not, List, Some, None, Option, ◌==◌, slice_index}
+use Rattle.std.specs.Prelude.{ℕ, ◌+◌, ◌*◌, ◌≤◌, Bool, true, false, not, List, Some, None, Option, ◌==◌, slice_index}
 use Rattle.algebra.specs.Counts.{count}
 use Rattle.reading.specs.declared.cell.Cell.{Cell}
 use Rattle.reading.specs.declared.cell.Cell.TheVariants.{Code, Smudge}

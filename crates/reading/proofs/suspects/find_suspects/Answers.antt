@@ -1,5 +1,5 @@
 -- What the proof of `suspects::find_suspects` leaves to be shown.
-use Rattle.std.proofs.Common.{◌≡◌, Ok, Result, subst, arith, MatchResult}
+use Rattle.std.proofs.Common.{◌≡◌, Ok, Result, subst, MatchResult}
 use Rattle.reading.specs.Working.{Folded}
 use Rattle.reading.proofs.Suspected.{iterated_suspects}
 use Rattle.reading.proofs.suspects.find_suspects.Goals as goal

@@ -1,5 +1,5 @@
 -- What the proof of `field::BinaryField::solve` leaves to be shown.
-use Rattle.std.proofs.Common.{◌≡◌, ℕ, ◌-◌, true, length, is_ok, Ok, Err, Result, sym, refl, ap, ◌∙◌, subst, arith, MatchResult}
+use Rattle.std.proofs.Common.{◌≡◌, ℕ, true, length, is_ok, Ok, Err, Result, sym, refl, ap, ◌∙◌, subst, arith, MatchResult}
 use Rattle.algebra.specs.Binary.{value}
 use Rattle.arithmetic.specs.Inverting.{Inverts}
 use Rattle.arithmetic.specs.Rows.{polynomial_of}

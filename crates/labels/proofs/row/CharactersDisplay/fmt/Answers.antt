@@ -1,0 +1,14 @@
+-- What the proof of `row::CharactersDisplay::fmt` leaves to be shown.
+use Rattle.std.proofs.Common.{◌≡◌, min, length, ap, rules}
+use lib.Utf8.{encodes}
+use Rattle.std.proofs.Output.{has_written_of_eq}
+use Rattle.text.proofs.Spacing.{take_within}
+use Rattle.labels.proofs.row.CharactersDisplay.fmt.Goals as goal
+
+pub returns-clause-writes : goal.returns-clause-writes
+returns-clause-writes g c = λ plain ok.
+    let label = c.args.self.now in
+    let within : c.min.result ≡ min label.places (length label.row) = search rules in
+    has_written_of_eq _ _ _ _ c.write.new.self
+    (ap encodes (take_within label.row label.places c.min.result within))
+    (c.write.ensures.writes plain ok)
