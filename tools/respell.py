@@ -19,7 +19,7 @@ PLAIN = set(
 # Lemmas spelled as the library spells its own of that name, or whose respelling is a word of the library.
 KEPT = {"zero-add", "zero-mul", "one-mul", "mul-zero", "bit-xor"}
 # What snake case alone would let fall together with another name.
-CHOSEN = {"digitsIn": "digits_up_to", "eqL→eq": "eq_l-eq", "U-short": "multiplier_short"}
+CHOSEN = {"digitsIn": "digits_up_to", "eqL→eq": "eq_l_eq", "U-short": "multiplier_short"}
 
 
 def declared_names():
@@ -57,11 +57,9 @@ def respelled(name, specs, fields):
     if name in CHOSEN:
         return CHOSEN[name]
     words = [snake(word) for word in name.split("-")]
-    result = words[0]
-    for before, word in zip(words, words[1:]):
-        both = before in specs and word in specs and before not in PLAIN and word not in PLAIN
-        result += ("-" if both and name not in specs and name not in fields else "_") + word
-    return result
+    lemma = name not in specs and name not in fields
+    joined = lemma and all(word in specs and word not in PLAIN for word in words)
+    return ("-" if joined else "_").join(words)
 
 
 def main():
@@ -88,7 +86,11 @@ def main():
         else:
             goals = set()
         swap = lambda m: m.group(0) if m.group(1) in goals else m.group(0).replace(m.group(1), table[m.group(1)])
-        new = field.sub(swap, token.sub(swap, new))
+        if table:
+            new = field.sub(swap, token.sub(swap, new))
+        # what an import calls a word in this file
+        for alias in set(re.findall(r"\bas ([a-z]+(?:-[a-z]+)+)", new)):
+            new = re.sub(r"(?<![\w\-])" + alias + r"(?![\w\-])", alias.replace("-", "_"), new)
         if new != old:
             with open(path, "w") as file:
                 file.write(new)

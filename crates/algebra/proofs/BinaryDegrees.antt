@@ -5,7 +5,7 @@ use native.Mathlib.Decide.{dec_lt}
 use lib.Bits.{bit_xor, xor_comm, xor_assoc, xor_lt, xor_shr}
 use lib.Pow.{pow-lt}
 use Rattle.algebra.specs.Binary.{pick, times, Degree, Divides}
-use Rattle.algebra.proofs.BinaryProducts.{xor_zero_eq, xor_cancel, times-zero_l, times-step, times-one_r, times_dbl_r, times_xor_l}
+use Rattle.algebra.proofs.BinaryProducts.{xor_zero_eq, xor_cancel, times_zero_l, times-step, times_one_r, times_dbl_r, times_xor_l}
 
 -- r is what a leaves by b: of lower degree than b, and b divides the difference
 abbrev pub LeavesBy : ℕ → ℕ → ℕ → Type 0
@@ -51,7 +51,7 @@ pick_le (suc d) a = le_refl a
 pub times-degree : (a i b j : ℕ) → Degree a i → Degree b j → Degree (times a b) (i + j)
 times-degree a i b zero ha hb =
     let one : b ≡ 1 = omega arith in
-    subst (λ (x : ℕ). Degree (times a x) (i + 0)) (sym one) (subst (λ (x : ℕ). Degree x (i + 0)) (sym (times-one_r a)) (subst (Degree a) (sym (add-zero i)) ha))
+    subst (λ (x : ℕ). Degree (times a x) (i + 0)) (sym one) (subst (λ (x : ℕ). Degree x (i + 0)) (sym (times_one_r a)) (subst (Degree a) (sym (add-zero i)) ha))
 times-degree a i b (suc j) ha hb =
     let t = times a (b / 2) in
     let p = pick (b % 2) a in
@@ -61,17 +61,17 @@ times-degree a i b (suc j) ha hb =
     subst (Degree (times a b)) (sym (add-suc i j)) (subst (λ (x : ℕ). Degree x (suc (i + j))) (sym (times-step a b)) sum)
 
 -- a product by a power of z is a shift
-pub times-pow_r : (a k : ℕ) → times a (2 ^ k) ≡ a * 2 ^ k
-times-pow_r a zero = times-one_r a ∙ sym (mul-one a)
-times-pow_r a (suc k) =
-    ap (times a) (pow_dbl k) ∙ times_dbl_r a (2 ^ k) ∙ ap (λ (x : ℕ). x * 2) (times-pow_r a k) ∙ mul_assoc a (2 ^ k) 2
+pub times_pow_r : (a k : ℕ) → times a (2 ^ k) ≡ a * 2 ^ k
+times_pow_r a zero = times_one_r a ∙ sym (mul-one a)
+times_pow_r a (suc k) =
+    ap (times a) (pow_dbl k) ∙ times_dbl_r a (2 ^ k) ∙ ap (λ (x : ℕ). x * 2) (times_pow_r a k) ∙ mul_assoc a (2 ^ k) 2
     ∙ ap (λ (x : ℕ). a * x) (sym (pow_dbl k))
 
 pub pow-degree : (k : ℕ) → Degree (2 ^ k) k
 pow-degree k = (le_refl (2 ^ k), pow-lt {j = suc k} (le_refl (suc k)))
 
 pub shl_degree : (a d k : ℕ) → Degree a d → Degree (a * 2 ^ k) (d + k)
-shl_degree a d k h = subst (λ (x : ℕ). Degree x (d + k)) (times-pow_r a k) (times-degree a d (2 ^ k) k h (pow-degree k))
+shl_degree a d k h = subst (λ (x : ℕ). Degree x (d + k)) (times_pow_r a k) (times-degree a d (2 ^ k) k h (pow-degree k))
 
 pub degree_le : (a i j : ℕ) → Degree a i → a < 2 ^ suc j → i ≤ j
 degree_le a i j h l = elim (dec_lt j i) [ yes g ↦ absurd (lt_irrefl a (lt_of_lt_of_le l (le_trans (pow_mono g) h.0))) | no g ↦ omega arith ]
@@ -118,4 +118,4 @@ one-remainder a b d r s h (lr, (q, e)) (ls, (t, f)) = xor_zero_eq r s zeroed
     zeroed =
         sym same
         ∙ ap (λ (x : ℕ). times x b) (small_multiple (bit_xor q t) b d h (subst (λ (x : ℕ). x < 2 ^ d) (sym same) (xor_lt d r s (lr d h) (ls d h))))
-        ∙ times-zero_l b
+        ∙ times_zero_l b

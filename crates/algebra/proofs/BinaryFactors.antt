@@ -3,7 +3,7 @@ use Rattle.std.proofs.Common.{◌≡◌, ℕ, ◌+◌, ◌-◌, ◌^◌, ◌<◌
 use native.Mathlib.Decide.{dec_lt}
 use lib.Bits.{bit_xor, xor_zero_r}
 use Rattle.algebra.specs.Binary.{times, Degree, Divides, NoFactor}
-use Rattle.algebra.proofs.BinaryProducts.{times-zero_l, times_xor_l, xor_cancel}
+use Rattle.algebra.proofs.BinaryProducts.{times_zero_l, times_xor_l, xor_cancel}
 use Rattle.algebra.proofs.BinaryDegrees.{LeavesBy, small_multiple}
 
 -- nothing is left: a factor
@@ -12,7 +12,7 @@ left_zero f x h = (h.1.0, h.1.1 ∙ xor_zero_r f)
 
 -- a factor: nothing is left
 pub factor_left : (f x d r : ℕ) → Degree x d → LeavesBy f x r → Divides x f → r ≡ 0
-factor_left f x d r h l (p, e) = sym same ∙ ap (λ (q : ℕ). times q x) (small_multiple s x d h (subst (λ (y : ℕ). y < 2 ^ d) (sym same) (l.0 d h))) ∙ times-zero_l x
+factor_left f x d r h l (p, e) = sym same ∙ ap (λ (q : ℕ). times q x) (small_multiple s x d h (subst (λ (y : ℕ). y < 2 ^ d) (sym same) (l.0 d h))) ∙ times_zero_l x
   where
     s : ℕ
     s = bit_xor p l.1.0

@@ -7,7 +7,7 @@ use Rattle.algebra.specs.Operations.{Operations, Ring, Field}
 use Rattle.algebra.specs.Codes.{Closed, coded, binary}
 use Rattle.algebra.specs.Binary.{times, Degree, NoFactor, remainder, product}
 use Rattle.algebra.proofs.Found.{found_lt, found-passes}
-use Rattle.algebra.proofs.BinaryProducts.{times_comm, times_assoc, times_xor_r, times-one_r}
+use Rattle.algebra.proofs.BinaryProducts.{times_comm, times_assoc, times_xor_r, times_one_r}
 use Rattle.algebra.proofs.BinaryRemainders.{leaves_self, remainder_is, remainder_lt, remainder_xor, remainder-times}
 use Rattle.algebra.proofs.BinaryInverses.{inverse}
 
@@ -28,7 +28,7 @@ module _ (F m : ℕ) (hF : Degree F m) where
 
   product_one : (a : ℕ) → a < 2 ^ m → product F a 1 ≡ a
   unfolding product
-  product_one a l = ap (λ (x : ℕ). remainder x F) (times-one_r a) ∙ sym (remainder_is F m hF a a (leaves_self a F m hF l))
+  product_one a l = ap (λ (x : ℕ). remainder x F) (times_one_r a) ∙ sym (remainder_is F m hF a a (leaves_self a F m hF l))
 
   pub product_lt : (a b : ℕ) → product F a b < 2 ^ m
   unfolding product

@@ -3,7 +3,7 @@ use Rattle.std.proofs.Common.{◌≡◌, ℕ, zero, suc, ◌^◌, ◌<◌, sym, 
 use native.Mathlib.Decide.{dec_lt}
 use lib.Bits.{bit_xor, xor_comm, xor_assoc}
 use Rattle.algebra.specs.Binary.{times, Degree, Divides, NoFactor, remainder}
-use Rattle.algebra.proofs.BinaryProducts.{times-zero_l, times-one_r, times_comm, times_assoc, times_xor_l, times_xor_r, xor_cancel}
+use Rattle.algebra.proofs.BinaryProducts.{times_zero_l, times_one_r, times_comm, times_assoc, times_xor_l, times_xor_r, xor_cancel}
 use Rattle.algebra.proofs.BinaryDegrees.{LeavesBy, has_degree, small_multiple}
 use Rattle.algebra.proofs.BinaryRemainders.{remainder_leaves}
 use Rattle.algebra.proofs.BinaryFactors.{left_zero}
@@ -31,7 +31,7 @@ module _ (F m : ℕ) (hF : Degree F m) (none : NoFactor F m) where
       Inverse x = (b : ℕ) × Divides F (bit_xor (times x b) 1)
 
       of_one : a ≡ 1 → (b : ℕ) × Divides F (bit_xor (times a b) 1)
-      of_one e = (1, (0, times-zero_l F ∙ sym (ap (λ (x : ℕ). bit_xor x 1) (times-one_r a ∙ e))))
+      of_one e = (1, (0, times_zero_l F ∙ sym (ap (λ (x : ℕ). bit_xor x 1) (times_one_r a ∙ e))))
 
       factor : (d : ℕ) → Degree a (suc d) → LeavesBy F a 0 → ⊥
       factor d k z = none a (record { at = suc d; low = omega arith; high = exponent_lt d k; degree = k; divides = left_zero F a z })
@@ -54,8 +54,8 @@ module _ (F m : ℕ) (hF : Degree F m) (none : NoFactor F m) where
   inverse a p l = inverse_in (suc a) a (le_refl (suc a)) p l
 
   -- no zero divisors
-  pub no_zero-product : (a x : ℕ) → 0 < a → a < 2 ^ m → x < 2 ^ m → Divides F (times a x) → x ≡ 0
-  no_zero-product a x p l k (u, e) = sym same ∙ ap (λ (q : ℕ). times q F) zeroed ∙ times-zero_l F
+  pub no_zero_product : (a x : ℕ) → 0 < a → a < 2 ^ m → x < 2 ^ m → Divides F (times a x) → x ≡ 0
+  no_zero_product a x p l k (u, e) = sym same ∙ ap (λ (q : ℕ). times q F) zeroed ∙ times_zero_l F
     where
       b : ℕ
       b = (inverse a p l).0
@@ -76,7 +76,7 @@ module _ (F m : ℕ) (hF : Degree F m) (none : NoFactor F m) where
           ∙ ap₂ bit_xor (times_assoc x t F ∙ ap (times x) f ∙ times_xor_r x (times a b) 1) (times_assoc b u F ∙ ap (times b) e)
           ∙ ap₂ (λ (v w : ℕ). bit_xor (bit_xor v (times x 1)) w) (times_comm x (times a b) ∙ ap (λ (v : ℕ). times v x) (times_comm a b) ∙ times_assoc b a x) refl
           ∙ xor_comm (bit_xor (times b (times a x)) (times x 1)) (times b (times a x))
-          ∙ xor_cancel (times b (times a x)) (times x 1) ∙ times-one_r x
+          ∙ xor_cancel (times b (times a x)) (times x 1) ∙ times_one_r x
 
       zeroed : q ≡ 0
       zeroed = small_multiple q F m hF (subst (λ (v : ℕ). v < 2 ^ m) (sym same) k)

@@ -54,17 +54,17 @@ times-enough : (n a b : ℕ) → b ≤ n → times_in n a b ≡ times a b
 unfolding times
 times-enough n a b h = le_ind (λ (m : ℕ). times_in m a b ≡ times_in b a b) refl (λ m k e. times_more m a b k ∙ e) n h
 
-pub times-zero_r : (a : ℕ) → times a zero ≡ zero
+pub times_zero_r : (a : ℕ) → times a zero ≡ zero
 unfolding times
-times-zero_r a = refl
+times_zero_r a = refl
 
 pub times-step : (a b : ℕ) → times a b ≡ bit_xor (pick (b % 2) a) (times a (b / 2) * 2)
 unfolding times
 times-step a zero = refl
 times-step a (suc b) = ap (λ (x : ℕ). bit_xor (pick (suc b % 2) a) (x * 2)) (times-enough b a (suc b / 2) (half_le (le_refl (suc b))))
 
-pub times-zero_l : (b : ℕ) → times zero b ≡ zero
-times-zero_l = bin_ind (λ (b : ℕ). times zero b ≡ zero) (times-zero_r zero)
+pub times_zero_l : (b : ℕ) → times zero b ≡ zero
+times_zero_l = bin_ind (λ (b : ℕ). times zero b ≡ zero) (times_zero_r zero)
     (λ b ih. times-step zero b ∙ ap₂ (λ (x y : ℕ). bit_xor x (y * 2)) (pick-zero (b % 2)) ih)
 
 pick_xor : (d a b : ℕ) → pick d (bit_xor a b) ≡ bit_xor (pick d a) (pick d b)
@@ -74,7 +74,7 @@ pick_xor (suc d) a b = refl
 pub times_xor_l : (a c b : ℕ) → times (bit_xor a c) b ≡ bit_xor (times a b) (times c b)
 times_xor_l a c =
     bin_ind (λ (b : ℕ). times (bit_xor a c) b ≡ bit_xor (times a b) (times c b))
-    (times-zero_r (bit_xor a c) ∙ sym (ap₂ bit_xor (times-zero_r a) (times-zero_r c)))
+    (times_zero_r (bit_xor a c) ∙ sym (ap₂ bit_xor (times_zero_r a) (times_zero_r c)))
     (λ b ih. times-step (bit_xor a c) b
     ∙ ap₂ (λ (x y : ℕ). bit_xor x (y * 2)) (pick_xor (b % 2) a c) ih
     ∙ ap (bit_xor (bit_xor (pick (b % 2) a) (pick (b % 2) c))) (sym (xor_dbl (times a (b / 2)) (times c (b / 2))))
@@ -95,7 +95,7 @@ pick_two (suc (suc d)) e a hd he = not_digit hd
 pub times_xor_r : (a b c : ℕ) → times a (bit_xor b c) ≡ bit_xor (times a b) (times a c)
 times_xor_r a =
     bin_ind (λ (b : ℕ). (c : ℕ) → times a (bit_xor b c) ≡ bit_xor (times a b) (times a c))
-    (λ c. sym (ap (λ (x : ℕ). bit_xor x (times a c)) (times-zero_r a)))
+    (λ c. sym (ap (λ (x : ℕ). bit_xor x (times a c)) (times_zero_r a)))
     (λ b ih c. times-step a (bit_xor b c)
     ∙ ap₂ (λ (x y : ℕ). bit_xor (pick x a) (times a y * 2)) (xor_odd b c) (xor_half b c)
     ∙ ap₂ (λ (x y : ℕ). bit_xor x (y * 2)) (pick_two (b % 2) (c % 2) a (mod-lt b two_pos) (mod-lt c two_pos)) (ih (c / 2))
@@ -112,20 +112,20 @@ pick_dbl (suc d) a = refl
 
 pub times_dbl_l : (a b : ℕ) → times (a * 2) b ≡ times a b * 2
 times_dbl_l a =
-    bin_ind (λ (b : ℕ). times (a * 2) b ≡ times a b * 2) (times-zero_r (a * 2) ∙ ap (λ (x : ℕ). x * 2) (sym (times-zero_r a)))
+    bin_ind (λ (b : ℕ). times (a * 2) b ≡ times a b * 2) (times_zero_r (a * 2) ∙ ap (λ (x : ℕ). x * 2) (sym (times_zero_r a)))
     (λ b ih. times-step (a * 2) b ∙ ap₂ (λ (x y : ℕ). bit_xor x (y * 2)) (pick_dbl (b % 2) a) ih
     ∙ xor_dbl (pick (b % 2) a) (times a (b / 2) * 2) ∙ ap (λ (x : ℕ). x * 2) (sym (times-step a b)))
 
-pub times-one_r : (a : ℕ) → times a 1 ≡ a
-times-one_r a = times-step a 1 ∙ ap (λ (x : ℕ). bit_xor a (x * 2)) (times-zero_r a) ∙ xor_zero_r a
+pub times_one_r : (a : ℕ) → times a 1 ≡ a
+times_one_r a = times-step a 1 ∙ ap (λ (x : ℕ). bit_xor a (x * 2)) (times_zero_r a) ∙ xor_zero_r a
 
 -- a number is its low digit, and twice the rest
 by_digit : (a : ℕ) → bit_xor (a / 2 * 2) (a % 2) ≡ a
 by_digit a = xor_shifted (a / 2) 1 (a % 2) (mod-lt a two_pos) ∙ div-add-mod' a 2
 
-pub times-one_l : (b : ℕ) → times 1 b ≡ b
-times-one_l =
-    bin_ind (λ (b : ℕ). times 1 b ≡ b) (times-zero_r 1)
+pub times_one_l : (b : ℕ) → times 1 b ≡ b
+times_one_l =
+    bin_ind (λ (b : ℕ). times 1 b ≡ b) (times_zero_r 1)
     (λ b ih. times-step 1 b ∙ ap₂ (λ (x y : ℕ). bit_xor x (y * 2)) (pick-one (b % 2) (mod-lt b two_pos)) ih
     ∙ xor_comm (b % 2) (b / 2 * 2) ∙ by_digit b)
   where
@@ -135,25 +135,25 @@ times-one_l =
     pick-one (suc (suc d)) h = not_digit h
 
 digit-times : (d b : ℕ) → d < 2 → times d b ≡ pick d b
-digit-times zero b h = times-zero_l b
-digit-times (suc zero) b h = times-one_l b
+digit-times zero b h = times_zero_l b
+digit-times (suc zero) b h = times_one_l b
 digit-times (suc (suc d)) b h = not_digit h
 
 pub times_comm : (a b : ℕ) → times a b ≡ times b a
 times_comm =
-    bin_ind (λ (a : ℕ). (b : ℕ) → times a b ≡ times b a) (λ b. times-zero_l b ∙ sym (times-zero_r b))
+    bin_ind (λ (a : ℕ). (b : ℕ) → times a b ≡ times b a) (λ b. times_zero_l b ∙ sym (times_zero_r b))
     (λ a ih b. ap (λ (x : ℕ). times x b) (sym (by_digit a)) ∙ times_xor_l (a / 2 * 2) (a % 2) b
     ∙ ap₂ bit_xor (times_dbl_l (a / 2) b ∙ ap (λ (x : ℕ). x * 2) (ih b)) (digit-times (a % 2) b (mod-lt a two_pos))
     ∙ xor_comm (times b (a / 2) * 2) (pick (a % 2) b) ∙ sym (times-step b a))
 
 times-pick : (d a b : ℕ) → times a (pick d b) ≡ pick d (times a b)
-times-pick zero a b = times-zero_r a
+times-pick zero a b = times_zero_r a
 times-pick (suc d) a b = refl
 
 pub times_assoc : (a b c : ℕ) → times (times a b) c ≡ times a (times b c)
 times_assoc a b =
     bin_ind (λ (c : ℕ). times (times a b) c ≡ times a (times b c))
-    (times-zero_r (times a b) ∙ sym (ap (times a) (times-zero_r b) ∙ times-zero_r a))
+    (times_zero_r (times a b) ∙ sym (ap (times a) (times_zero_r b) ∙ times_zero_r a))
     (λ c ih. times-step (times a b) c
     ∙ ap₂ (λ (x y : ℕ). bit_xor x (y * 2)) (sym (times-pick (c % 2) a b)) ih
     ∙ ap (bit_xor (times a (pick (c % 2) b))) (sym (times_dbl_r a (times b (c / 2))))

@@ -3,8 +3,8 @@ use Rattle.std.proofs.Common.{◌≡◌, ℕ, zero, suc, ◌+◌, ◌-◌, ◌*�
 use lib.Arith.{half_le}
 use lib.Bits.{bit_xor, xor_comm, xor_assoc, xor_self, xor_lt}
 use Rattle.algebra.specs.Binary.{times, Degree, digits_up_to, digits, remainder_in, remainder}
-use Rattle.algebra.proofs.BinaryProducts.{times-zero_l, times_comm, times_assoc, times_xor_l, xor_cancel, xor_swap}
-use Rattle.algebra.proofs.BinaryDegrees.{LeavesBy, xor_falls, shl_degree, times-pow_r, degree-one, has_degree, one-remainder}
+use Rattle.algebra.proofs.BinaryProducts.{times_zero_l, times_comm, times_assoc, times_xor_l, xor_cancel, xor_swap}
+use Rattle.algebra.proofs.BinaryDegrees.{LeavesBy, xor_falls, shl_degree, times_pow_r, degree-one, has_degree, one-remainder}
 
 -- the shifted b keeps all its bits
 pub shl_all : (b m n : ℕ) → Degree b n → n ≤ m → m < 64 → (b * 2 ^ (m - n)) % 2 ^ 64 ≡ b * 2 ^ (m - n)
@@ -20,12 +20,12 @@ leaves_step a b k r h = (h.0, (bit_xor (2 ^ k) h.1.0, q))
   where
     q : times (bit_xor (2 ^ k) h.1.0) b ≡ bit_xor a r
     q =
-        times_xor_l (2 ^ k) h.1.0 b ∙ ap₂ bit_xor (times_comm (2 ^ k) b ∙ times-pow_r b k) h.1.1
+        times_xor_l (2 ^ k) h.1.0 b ∙ ap₂ bit_xor (times_comm (2 ^ k) b ∙ times_pow_r b k) h.1.1
         ∙ ap (λ (x : ℕ). bit_xor (b * 2 ^ k) (bit_xor x r)) (xor_comm a (b * 2 ^ k))
         ∙ ap (bit_xor (b * 2 ^ k)) (xor_assoc (b * 2 ^ k) a r) ∙ xor_cancel (b * 2 ^ k) (bit_xor a r)
 
 pub leaves_self : (a b n : ℕ) → Degree b n → a < 2 ^ n → LeavesBy a b a
-leaves_self a b n h l = ((λ d k. subst (λ (x : ℕ). a < 2 ^ x) (degree-one b n d h k) l), (0, times-zero_l b ∙ sym (xor_self a)))
+leaves_self a b n h l = ((λ d k. subst (λ (x : ℕ). a < 2 ^ x) (degree-one b n d h k) l), (0, times_zero_l b ∙ sym (xor_self a)))
 
 digits_in : (n a d : ℕ) → a ≤ n → Degree a d → digits_up_to n a ≡ suc d
 unfolding digits_up_to

@@ -55,9 +55,9 @@ module _ (q : ℕ) (o : Operations ℕ) (C : Closed q o) where
           ∙ of_cond {A = Fin q} (λ x. x.0) (ltb t r)
           (oq.sum (delay oq 1 held t) (oq.neg (oq.prod (oq.sum (held (r - 1)) (f p)) (generator oq g r t)))) oq.zero
 
-      row-code_down : 1 ≤ k → (i : ℕ) → row-code o g.0 r d k i ≡ (row-code oq g r f k i).0
+      row_code_down : 1 ≤ k → (i : ℕ) → row-code o g.0 r d k i ≡ (row-code oq g r f k i).0
       unfolding row-code
-      row-code_down l i =
+      row_code_down l i =
           ap₂ (λ a b. cond (ltb i r) (o.neg a) b) (register_down k (omega arith) i) (e (k - 1 - (i - r)) (omega arith))
           ∙ of_cond {A = Fin q} (λ x. x.0) (ltb i r) (oq.neg (register oq g r f k i)) (f (k - 1 - (i - r)))
 
@@ -101,6 +101,6 @@ module _ (q : ℕ) (o : Operations ℕ) (C : Closed q o) where
         → (j : ℕ) → 1 ≤ j → j ≤ r → sums o (r + k) (λ i. o.prod (row-code o g r d k i) (pow o g (i * j))) ≡ o.zero
     row-code-zeros g r k d l b h j a c =
         let f : ℕ → Fin q = λ i. as_code (d i) in
-        sums_same o (r + k) _ _ (λ i z. ap₂ o.prod (row-code_down (g, l) r k d f (λ p y. as_code_is (d p) (h p y)) b i) (CodedSums.pow_down q o C (g, l) (i * j)))
+        sums_same o (r + k) _ _ (λ i z. ap₂ o.prod (row_code_down (g, l) r k d f (λ p y. as_code_is (d p) (h p y)) b i) (CodedSums.pow_down q o C (g, l) (i * j)))
         ∙ CodedSums.sums_down q o C (r + k) (λ i. oq.prod (row-code oq (g, l) r f k i) (pow oq (g, l) (i * j)))
         ∙ ap (λ x. x.0) (Registers.row-zeros oq R (g, l) r k j f a c)

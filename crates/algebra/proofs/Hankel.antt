@@ -5,8 +5,8 @@ use native.Mathlib.Decide.{dec_lt}
 use lib.Bits.{bit_xor, xor_zero_r, xor_shifted}
 use Rattle.algebra.specs.Binary.{bit, times, Degree, remainder, product}
 use Rattle.algebra.specs.Coordinates.{total, hankel, row}
-use Rattle.algebra.proofs.BinaryProducts.{times-zero_r, times_xor_r, xor_shl}
-use Rattle.algebra.proofs.BinaryDegrees.{LeavesBy, times-pow_r, xor_falls, shl_degree}
+use Rattle.algebra.proofs.BinaryProducts.{times_zero_r, times_xor_r, xor_shl}
+use Rattle.algebra.proofs.BinaryDegrees.{LeavesBy, times_pow_r, xor_falls, shl_degree}
 use Rattle.algebra.proofs.BinaryRemainders.{leaves_step, leaves_self, remainder_is, remainder_lt, remainder_xor, remainder-times}
 use Rattle.algebra.proofs.BinaryBits.{bit_lt, bit-xor, bit_dbl, mod_suc, top_bit, degree-bit}
 use Rattle.algebra.proofs.HankelCoordinates.{total_ext, hankel_low, hankel_high}
@@ -20,12 +20,12 @@ module _ (f : ℕ → ℕ) (linear : (x y : ℕ) → f (bit_xor x y) ≡ (f x + 
   at_zero = omega (arith, linear 0 0)
 
   at_digit : (a d n : ℕ) → d < 2 → f (times a (d * 2 ^ n)) ≡ f (a * 2 ^ n) * d
-  at_digit a zero n h = rw (zero-mul, times-zero_r, at_zero) (omega arith)
-  at_digit a (suc zero) n h = ap f (ap (times a) (one-mul (2 ^ n)) ∙ times-pow_r a n) ∙ sym (mul-one (f (a * 2 ^ n)))
+  at_digit a zero n h = rw (zero-mul, times_zero_r, at_zero) (omega arith)
+  at_digit a (suc zero) n h = ap f (ap (times a) (one-mul (2 ^ n)) ∙ times_pow_r a n) ∙ sym (mul-one (f (a * 2 ^ n)))
   at_digit a (suc (suc d)) n h = absurd (omega arith)
 
   expand : (a c n : ℕ) → f (times a (c % 2 ^ n)) ≡ total n (λ j. f (a * 2 ^ j) * bit c j) % 2
-  expand a c zero = ap (λ (x : ℕ). f (times a x)) (mod-one c) ∙ ap f (times-zero_r a) ∙ at_zero
+  expand a c zero = ap (λ (x : ℕ). f (times a x)) (mod-one c) ∙ ap f (times_zero_r a) ∙ at_zero
   expand a c (suc n) =
       let d = bit c n in
       let r = c % 2 ^ n in
@@ -55,8 +55,8 @@ module _ (F m : ℕ) (hF : Degree F m) (pos : 0 < m) where
 
   reduced : (x i : ℕ) → remainder (remainder x F * 2 ^ i) F ≡ remainder (x * 2 ^ i) F
   reduced x i =
-      ap (λ (y : ℕ). remainder y F) (sym (times-pow_r (remainder x F) i)) ∙ remainder-times F m hF x (2 ^ i)
-      ∙ ap (λ (y : ℕ). remainder y F) (times-pow_r x i)
+      ap (λ (y : ℕ). remainder y F) (sym (times_pow_r (remainder x F) i)) ∙ remainder-times F m hF x (2 ^ i)
+      ∙ ap (λ (y : ℕ). remainder y F) (times_pow_r x i)
 
   -- the bits move up, and F comes in where the highest was set
   doubled : (y p : ℕ) → y < 2 ^ m → bit (remainder (y * 2) F) (suc p) ≡ (bit y p + bit F (suc p) * bit y (m - 1)) % 2

@@ -11,7 +11,7 @@ use Rattle.algebra.specs.Coordinates.{row, Solves}
 use Rattle.algebra.proofs.BinaryProducts.{xor_shl, xor_zero_eq}
 use Rattle.algebra.proofs.BinaryDegrees.{has_degree, degree_le, pow-degree, shl_degree}
 use Rattle.algebra.proofs.BinaryRemainders.{remainder_leaves}
-use Rattle.algebra.proofs.BinaryInverses.{no_zero-product}
+use Rattle.algebra.proofs.BinaryInverses.{no_zero_product}
 use Rattle.algebra.proofs.BinaryField.{product_lt, product_xor}
 use Rattle.algebra.proofs.BinaryBits.{degree-bit}
 use Rattle.algebra.proofs.Hankel.{lead, lead_xor, small, row_lead}
@@ -49,7 +49,7 @@ module _ (F m : ℕ) (hF : Degree F m) (pos : 0 < m) where
     unfolding product
     product-zero b hb z =
         let d = (remainder_leaves (times a b) F m hF).1 in
-        no_zero-product F m hF none a b pa ha hb (d.0, d.1 ∙ ap (bit_xor (times a b)) z ∙ xor_zero_r (times a b))
+        no_zero_product F m hF none a b pa ha hb (d.0, d.1 ∙ ap (bit_xor (times a b)) z ∙ xor_zero_r (times a b))
 
     pub inverse_unique : (b c : ℕ) → b < 2 ^ m → c < 2 ^ m → product F a b ≡ 1 → product F a c ≡ 1 → b ≡ c
     inverse_unique b c hb hc p q = xor_zero_eq b c (product-zero (bit_xor b c) (xor_lt m b c hb hc) (product_xor F m hF a b c ∙ ap₂ bit_xor p q))

@@ -61,10 +61,10 @@ module _ {K : Type 0} (o : Operations K) (R : Ring o) where
   neg_sum a b = sym (neg_unique (a + b) (neg a + neg b) (rw (sum_assoc, add_left_comm b (neg a) (neg b), cancel_r, sum_neg)))
 
   pub eq_of_sub : (a b : K) → a + neg b ≡ zero → a ≡ b
-  eq_of_sub a b h = neg-neg_eq (neg_unique (neg b) a (sum_comm (neg b) a ∙ h))
+  eq_of_sub a b h = neg_neg_eq (neg_unique (neg b) a (sum_comm (neg b) a ∙ h))
     where
-      neg-neg_eq : a ≡ neg (neg b) → a ≡ b
-      neg-neg_eq e = e ∙ neg-neg b
+      neg_neg_eq : a ≡ neg (neg b) → a ≡ b
+      neg_neg_eq e = e ∙ neg-neg b
 
   pub sub_ne : (a b : K) → ¬ (a ≡ b) → ¬ (a + neg b ≡ zero)
   sub_ne a b n e = n (eq_of_sub a b e)

@@ -31,11 +31,11 @@ and_r : (a b : Bool) → T (a && b) → T b
 and_r true b t = t
 and_r false b t = absurd t
 
-eq_l-eq : (xs ys : List ℕ) → T (eq_l xs ys) → xs ≡ ys
-eq_l-eq [] [] t = refl
-eq_l-eq [] (y ∷ ys) t = absurd t
-eq_l-eq (x ∷ xs) [] t = absurd t
-eq_l-eq (x ∷ xs) (y ∷ ys) t = ap₂ (λ a b. a ∷ b) (eqb→eq x y (and_l (eqb x y) (eq_l xs ys) t)) (eq_l-eq xs ys (and_r (eqb x y) (eq_l xs ys) t))
+eq_l_eq : (xs ys : List ℕ) → T (eq_l xs ys) → xs ≡ ys
+eq_l_eq [] [] t = refl
+eq_l_eq [] (y ∷ ys) t = absurd t
+eq_l_eq (x ∷ xs) [] t = absurd t
+eq_l_eq (x ∷ xs) (y ∷ ys) t = ap₂ (λ a b. a ∷ b) (eqb→eq x y (and_l (eqb x y) (eq_l xs ys) t)) (eq_l_eq xs ys (and_r (eqb x y) (eq_l xs ys) t))
 
 abbrev pub ins_v : ℕ → List ℕ → List ℕ
 ins_v n [] = n ∷ []
@@ -155,7 +155,7 @@ module _ {K : Type 0} (o : Operations K) (R : Ring o) where
     sg_opp false false x h = absurd h
 
     opp_ok : (m p : Mono) → T (opp m p) → mo m + mo p ≡ 0#
-    opp_ok (mono s xs) (mono t ys) h = rw (eq_l-eq xs ys (and_r (beq s (flip t)) (eq_l xs ys) h)) (sg_opp s t (vs ys) (and_l (beq s (flip t)) (eq_l xs ys) h))
+    opp_ok (mono s xs) (mono t ys) h = rw (eq_l_eq xs ys (and_r (beq s (flip t)) (eq_l xs ys) h)) (sg_opp s t (vs ys) (and_l (beq s (flip t)) (eq_l xs ys) h))
 
     add_m_ok : (m : Mono) (q : List Mono) → po (add_m m q) ≡ mo m + po q
     add_m_ok m [] = refl

@@ -58,9 +58,9 @@ module _ (m : Meaning) (L : Lawful m) (n : ℕ) (r : ℕ → ℕ) (rc : (t : ℕ
           ∙ terms_ext o n (begun o n r).small r (λ t l. ap (λ (v : Bool). cond v (r t) o.zero) (lt-ltb t n l))
 
   module _ (k i j : ℕ) (b bm sm smm : List ℕ) (h : At o n r stop k i j b bm sm smm) where
-    small-terms_of : j ≡ terms o (suc n) (after o n r k).small
+    small_terms_of : j ≡ terms o (suc n) (after o n r k).small
     unfolding left
-    small-terms_of = h.small_terms
+    small_terms_of = h.small_terms
 
     pub all_codes : Codes m b × Codes m bm × Codes m sm × Codes m smm
     all_codes =
@@ -68,17 +68,17 @@ module _ (m : Meaning) (L : Lawful m) (n : ℕ) (r : ℕ → ℕ) (rc : (t : ℕ
         (codes_in b (after o n r k).big h.held.big c.big_codes, codes_in bm (after o n r k).big_multiplier h.held.big_multiplier c.big_multiplier_codes, codes_in sm (after o n r k).small h.held.small c.small_codes, codes_in smm (after o n r k).small_multiplier h.held.small_multiplier c.small_multiplier_codes)
 
     pub ordered : j ≤ i
-    ordered = omega (arith, (kept k h.due).ordered, small-terms_of, h.big_terms)
+    ordered = omega (arith, (kept k h.due).ordered, small_terms_of, h.big_terms)
 
     pub big_low : i ≤ n + 1
     big_low = omega (arith, h.big_terms, terms_le o Z (suc n) (after o n r k).big)
 
     pub small_low : j ≤ n
-    small_low = omega (arith, small-terms_of, terms_within o Z (suc n) (after o n r k).small n (kept k h.due).small_within)
+    small_low = omega (arith, small_terms_of, terms_within o Z (suc n) (after o n r k).small n (kept k h.due).small_within)
 
     pub leads : 0 < j → length sm ≡ n → get_or sm (j - 1) 0 ≡ o.zero → ⊥
     leads p len e =
-        terms_top o Z (suc n) (after o n r k).small (j - 1) (sym small-terms_of ∙ omega arith)
+        terms_top o Z (suc n) (after o n r k).small (j - 1) (sym small_terms_of ∙ omega arith)
         (sym (h.held.small.inside (j - 1) (omega (arith, small_low))) ∙ e)
 
     module _ (more : suc stop < j) where
@@ -115,7 +115,7 @@ module _ (m : Meaning) (L : Lawful m) (n : ℕ) (r : ℕ → ℕ) (rc : (t : ℕ
           let s = after o n r k in
           let l : terms o (suc n) new < terms o (suc n) s.big
           = omega (arith, terms_within o Z (suc n) new (pred (terms o (suc n) s.big)) (makes k h.due goes_on).new_within, ordered, h.big_terms) in
-          omega (arith, falls s new (less o s.big_multiplier (quotient o n s) (gap o n s) s.small_multiplier) l, small-terms_of, h.big_terms)
+          omega (arith, falls s new (less o s.big_multiplier (quotient o n s) (gap o n s) s.small_multiplier) l, small_terms_of, h.big_terms)
 
       -- after one more iteration the rows stand at the next place, and the terms are fewer
       pub next : (i' j' x w : ℕ) (b' bm' sm' smm' : List ℕ) → Once o x w i j b bm sm smm b' bm' sm' smm' i' j' → x ≡ n → w ≡ width n stop
@@ -123,7 +123,7 @@ module _ (m : Meaning) (L : Lawful m) (n : ℕ) (r : ℕ → ℕ) (rc : (t : ℕ
       unfolding after left
       next i' j' x w b' bm' sm' smm' once ex ew =
           let here = subst (λ (v : ℕ). Once o n v i j b bm sm smm b' bm' sm' smm' i' j') ew (subst (λ (u : ℕ). Once o u w i j b bm sm smm b' bm' sm' smm' i' j') ex once) in
-          let t = here (after o n r k) h.held h.big_terms small-terms_of new_fits new_multiplier_fits in
+          let t = here (after o n r k) h.held h.big_terms small_terms_of new_fits new_multiplier_fits in
           let e : k + 1 ≡ suc k = omega arith in (
             subst (λ (v : ℕ). At o n r stop v i' j' b' bm' sm' smm') (sym e)
                 (record { due = subst (Due o n r stop) e (below_more _ _ h.due goes_on); held = t.0; big_terms = t.1; small_terms = t.2 }),

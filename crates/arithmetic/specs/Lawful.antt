@@ -2,6 +2,7 @@
 use Rattle.std.specs.Prelude.{ℕ, ◌^◌, ◌<◌, ◌≤◌, T, ◌≢◌, refl}
 use Rattle.std.proofs.Common.{arith, pow_mono}
 use Rattle.algebra.specs.Binary.{NoFactor}
+use Rattle.algebra.specs.Codes.{found}
 use Rattle.algebra.proofs.BinaryField
 use Rattle.algebra.proofs.Residues
 use Rattle.arithmetic.specs.Meaning.{Lawful, field_of, residues}
@@ -21,6 +22,14 @@ residues_lawful n g two most t p l = record {
   where
     positive : (g : ℕ) → 0 < g → g ≢ 0
     positive g h e = omega arith
+
+pub bits_lawful : Lawful (residues 2 1)
+unfolding found
+bits_lawful = residues_lawful 2 1 (omega arith) (omega arith) tt (omega arith) (omega arith)
+
+pub residues_37_lawful : Lawful (residues 37 2)
+unfolding found
+residues_37_lawful = residues_lawful 37 2 (omega arith) (omega arith) tt (omega arith) (omega arith)
 
 pub field_lawful : (F m : ℕ) → RightDegree F m → NoFactor F m → Lawful (field_of F m)
 field_lawful F m (h, least, most) none = record {

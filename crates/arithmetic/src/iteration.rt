@@ -1,7 +1,7 @@
 // The iteration on two pairs of polynomials, for coefficients of any arithmetic.
 ghost use Rattle.std.specs.Prelude.{◌≡◌, ℕ, ◌+◌, ◌-◌, ◌^◌, ◌<◌, ◌≤◌, length, MatchBool, MatchResult, OnErr, ◌≢◌, slice_index};
 ghost use Rattle.algebra.specs.Iteration.{begun};
-ghost use Rattle.algebra.specs.Polynomials.{nothing, power, terms as terms-of};
+ghost use Rattle.algebra.specs.Polynomials.{nothing, power, terms as terms_of};
 ghost use Rattle.arithmetic.specs.Meaning.{Codes};
 ghost use Rattle.arithmetic.specs.Rows.{Fitting, Held, Holds, Iterated, Lengths, NotIterated, Once, less_at, polynomial_of};
 
@@ -23,7 +23,7 @@ pub fn all_codes<A: Arithmetic>(arithmetic: &A, row: &[u32]) -> bool
 
 /// One more than the degree of the polynomial in a row, and 0 for the zero polynomial.
 fn terms<A: Arithmetic>(arithmetic: &A, row: &[u32]) -> usize
-    ensures { result ≡ terms-of (A.Arithmetic.meaning arithmetic.now).codes (length row.now) (polynomial_of row.now) }
+    ensures { result ≡ terms_of (A.Arithmetic.meaning arithmetic.now).codes (length row.now) (polynomial_of row.now) }
 {
     let zero = arithmetic.zero();
     for i in (0..row.len()).rev() {

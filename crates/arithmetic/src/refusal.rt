@@ -1,6 +1,6 @@
 // Why a call is refused.
 ghost use Rattle.std.specs.Prelude.{◌≡◌};
-ghost use Rattle.arithmetic.specs.Refusals.{number as refusal-number, place as refusal-place};
+ghost use Rattle.arithmetic.specs.Refusals.{number as refusal_number, place as refusal_place};
 
 /// Why a call is refused. Each refusal has a number and a place.
 #[derive(Clone, Copy)]
@@ -20,7 +20,7 @@ pub enum Refusal {
 impl Refusal {
     /// The refusal's number.
     pub fn number(self) -> u32
-        ensures { result ≡ refusal-number self }
+        ensures { result ≡ refusal_number self }
     {
         match self {
             Refusal::WrongDegree => 1,
@@ -33,7 +33,7 @@ impl Refusal {
 
     /// The refusal's place: 0, since none of these refusals concerns a place.
     pub fn place(self) -> u32
-        ensures { result ≡ refusal-place self }
+        ensures { result ≡ refusal_place self }
     {
         match self {
             Refusal::WrongDegree

@@ -2,9 +2,7 @@
 ghost use Rattle.std.specs.Prelude.{◌+◌, ◌-◌, ◌*◌, ◌%◌, ◌<◌, ◌≤◌};
 ghost use Rattle.arithmetic.specs.Answers.{OfOne, OfTwo};
 ghost use Rattle.arithmetic.specs.Meaning.{residues};
-ghost use Rattle.std.proofs.Common.{arith};
-ghost use Rattle.algebra.specs.Codes.{found};
-ghost use Rattle.arithmetic.specs.Lawful.{residues_lawful};
+ghost use Rattle.arithmetic.specs.Lawful.{bits_lawful, residues_37_lawful};
 
 use crate::interface::Arithmetic;
 use crate::refusal::Refusal;
@@ -67,7 +65,7 @@ fn product_modulo(n: u32, a: u32, b: u32) -> Result<u32, Refusal>
 impl Arithmetic for Bits {
     ghost meaning = { λ _. residues 2 1 };
 
-    ghost lawful = { unfold found in λ a. residues_lawful 2 1 (omega arith) (omega arith) tt (omega arith) (omega arith) };
+    ghost lawful = { λ a. bits_lawful };
 
     fn size(&self) -> u32 {
         2
@@ -109,7 +107,7 @@ impl Arithmetic for Bits {
 impl Arithmetic for Residues {
     ghost meaning = { λ _. residues 37 2 };
 
-    ghost lawful = { unfold found in λ a. residues_lawful 37 2 (omega arith) (omega arith) tt (omega arith) (omega arith) };
+    ghost lawful = { λ a. residues_37_lawful };
 
     fn size(&self) -> u32 {
         MODULUS

@@ -83,8 +83,8 @@ module _ (m : Meaning) (L : Lawful m) where
     abbrev pub coefficient : ℕ → Fin q
     coefficient i = (code n row i, code_in row c (n - 1 - i))
 
-    pub power-sum_is : (j : ℕ) → power_sum m n row j ≡ (sums oq n (λ i. oq.prod (coefficient i) (pow oq (point i) j))).0
-    power-sum_is j =
+    pub power_sum_is : (j : ℕ) → power_sum m n row j ≡ (sums oq n (λ i. oq.prod (coefficient i) (pow oq (point i) j))).0
+    power_sum_is j =
         ap (sums o n) (fun_ext (λ i. ap (o.prod (code n row i)) (CodedSums.pow_down q o L.closed g (i * j) ∙ ap (λ x. x.0) (Powers.pow-product oq L.ring g i j))))
         ∙ CodedSums.sums_down q o L.closed n (λ i. oq.prod (coefficient i) (pow oq (point i) j))
 
@@ -100,7 +100,7 @@ module _ (m : Meaning) (L : Lawful m) where
 
     -- the sums of each label, and so of the difference, are zero
     zero-sum : (row : List ℕ) (z : Label m n r row) (t : ℕ) → t < r → sums oq n (λ i. oq.prod (coefficient n row z.codes i) (pow oq (point i) (1 + t))) ≡ oq.zero
-    zero-sum row z t l = native.Mathlib.Fin.val_path (sym (power-sum_is n row z.codes (1 + t)) ∙ z.zeros (1 + t) (omega arith) (omega arith))
+    zero-sum row z t l = native.Mathlib.Fin.val_path (sym (power_sum_is n row z.codes (1 + t)) ∙ z.zeros (1 + t) (omega arith) (omega arith))
 
     zero_difference : (t : ℕ) → t < r → sums oq n (λ i. oq.prod (difference i) (pow oq (point i) (1 + t))) ≡ oq.zero
     zero_difference t l =

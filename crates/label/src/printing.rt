@@ -1,9 +1,9 @@
 // Printing a door's label.
 ghost use Rattle.std.specs.Prelude.{◌≡◌, ℕ, ◌+◌, ◌-◌, ◌^◌, ◌<◌, ◌≤◌, List, length, MatchResult, slice_index};
-ghost use Rattle.algebra.specs.Generators.{generator as generator-of, register};
+ghost use Rattle.algebra.specs.Generators.{generator as generator_of, register};
 ghost use Rattle.algebra.specs.Polynomials.{delay};
 ghost use Rattle.arithmetic.specs.Meaning.{Codes};
-ghost use Rattle.label.specs.Labels.{Label, LabelOf, Spelled, character as character-of, digit, door as door-of};
+ghost use Rattle.label.specs.Labels.{Label, LabelOf, Spelled, character as character_of, digit, door as door_of};
 ghost use Rattle.label.specs.Schemes.{IsScheme, NotPrinted, NotTyped};
 
 use crate::known::{less, negative, product, sum};
@@ -43,7 +43,7 @@ fn shift_less<A: Arithmetic>(arithmetic: &A, row: &mut [u32], factor: u32, other
 /// Writes the generator of as many check characters as a row has places but one into it; `copy` is a row of the same length.
 fn write_generator<A: Arithmetic>(arithmetic: &A, row: &mut [u32], copy: &mut [u32])
     requires { (0 < length row.old) × (length copy.old ≡ length row.old) }
-    ensures value { (t : ℕ) → t < length row.old → slice_index row.new t ≡ generator-of (A.Arithmetic.meaning arithmetic.now).codes (A.Arithmetic.meaning arithmetic.now).step (length row.old - 1) t }
+    ensures value { (t : ℕ) → t < length row.old → slice_index row.new t ≡ generator_of (A.Arithmetic.meaning arithmetic.now).codes (A.Arithmetic.meaning arithmetic.now).step (length row.old - 1) t }
     ensures codes { Codes (A.Arithmetic.meaning arithmetic.now) row.new }
 {
     let step = arithmetic.step();
@@ -61,7 +61,7 @@ fn write_generator<A: Arithmetic>(arithmetic: &A, row: &mut [u32], copy: &mut [u
 fn divide<A: Arithmetic>(arithmetic: &A, digits: &[u32], row: &mut [u32], generator: &[u32])
     requires row_nonzero { (0 < length row.old) × (length generator.now ≡ length row.old + 1) }
     requires digit_codes { Codes (A.Arithmetic.meaning arithmetic.now) digits.now }
-    requires generates { (t : ℕ) → t < length generator.now → slice_index generator.now t ≡ generator-of (A.Arithmetic.meaning arithmetic.now).codes (A.Arithmetic.meaning arithmetic.now).step (length row.old) t }
+    requires generates { (t : ℕ) → t < length generator.now → slice_index generator.now t ≡ generator_of (A.Arithmetic.meaning arithmetic.now).codes (A.Arithmetic.meaning arithmetic.now).step (length row.old) t }
     requires generator_codes { Codes (A.Arithmetic.meaning arithmetic.now) generator.now }
     ensures value { (t : ℕ) → t < length row.old → slice_index row.new t ≡ register (A.Arithmetic.meaning arithmetic.now).codes (A.Arithmetic.meaning arithmetic.now).step (length row.old) (λ p. slice_index digits.now p) (length digits.now) t }
     ensures codes { Codes (A.Arithmetic.meaning arithmetic.now) row.new }
@@ -113,7 +113,7 @@ fn write_label_by<A: Arithmetic>(
     copy: &mut [u32],
 )
     requires { (1 ≤ length digits.old) × (length digits.old < length row.old) × (length generator.old ≡ length row.old - length digits.old + 1) × (length copy.old ≡ length row.old - length digits.old + 1) }
-    ensures { door < (A.Arithmetic.meaning arithmetic.now).size ^ length digits.old → Label (A.Arithmetic.meaning arithmetic.now) (length row.old) (length row.old - length digits.old) row.new × (door-of (A.Arithmetic.meaning arithmetic.now).size (length digits.old) row.new ≡ door) }
+    ensures { door < (A.Arithmetic.meaning arithmetic.now).size ^ length digits.old → Label (A.Arithmetic.meaning arithmetic.now) (length row.old) (length row.old - length digits.old) row.new × (door_of (A.Arithmetic.meaning arithmetic.now).size (length digits.old) row.new ≡ door) }
 {
     write_digits(arithmetic.size(), door, digits);
     let k = digits.len();
@@ -124,7 +124,7 @@ fn write_label_by<A: Arithmetic>(
 /// Writes the label of a door of `k` characters into a row.
 fn write_label<A: Arithmetic>(arithmetic: &A, door: u32, k: usize, row: &mut [u32])
     requires { (1 ≤ k) × (k < length row.old) × (length row.old ≤ 64) }
-    ensures { door < (A.Arithmetic.meaning arithmetic.now).size ^ k → Label (A.Arithmetic.meaning arithmetic.now) (length row.old) (length row.old - k) row.new × (door-of (A.Arithmetic.meaning arithmetic.now).size k row.new ≡ door) }
+    ensures { door < (A.Arithmetic.meaning arithmetic.now).size ^ k → Label (A.Arithmetic.meaning arithmetic.now) (length row.old) (length row.old - k) row.new × (door_of (A.Arithmetic.meaning arithmetic.now).size k row.new ≡ door) }
 {
     let mut digits = [0u32; 64];
     let mut generator = [0u32; 64];
@@ -142,7 +142,7 @@ fn write_label<A: Arithmetic>(arithmetic: &A, door: u32, k: usize, row: &mut [u3
 
 /// The character of a code below 64.
 fn character(code: u32) -> u8
-    ensures { result ≡ character-of code }
+    ensures { result ≡ character_of code }
 {
     match code {
         0..=9 => b'0' + code as u8,

@@ -36,10 +36,10 @@ module _ (m : Meaning) (L : Lawful m) where
     pub point_nonzero : (p : ℕ) → p < n → ¬ (point p ≡ oq.zero)
     point_nonzero p l = Apart.point_nonzero m L (n - 1 - p)
 
-    power-sum_places : (row : List ℕ) (c : Codes m row) (j : ℕ) → power_sum m n row j ≡ (sums oq n (λ p. oq.prod (entry row c p) (pow oq (point p) j))).0
-    power-sum_places row c j =
+    power_sum_places : (row : List ℕ) (c : Codes m row) (j : ℕ) → power_sum m n row j ≡ (sums oq n (λ p. oq.prod (entry row c p) (pow oq (point p) j))).0
+    power_sum_places row c j =
         let term : ℕ → Fin m.size = λ p. oq.prod (entry row c p) (pow oq (point p) j) in
-        Apart.power-sum_is m L n row c j
+        Apart.power_sum_is m L n row c j
         ∙ ap (λ s. s.0) (Sums.sums_same oq n _ (λ i. term (n - 1 - i)) (λ i l. ap (λ k. oq.prod (entry row c (n - 1 - i)) (pow oq (Apart.point m L k) j)) (omega arith))
         ∙ Sums.sums_reversed oq L.ring n term)
 
@@ -59,8 +59,8 @@ module _ (m : Meaning) (L : Lawful m) where
       error_sums t l v e =
           let own : Fin m.size = sums oq n (λ p. oq.prod (entry y yc p) (pow oq (point p) (suc t))) in
           let label : Fin m.size = sums oq n (λ p. oq.prod (entry c lab.codes p) (pow oq (point p) (suc t))) in
-          let gone : label ≡ oq.zero = native.Mathlib.Fin.val_path (sym (power-sum_places c lab.codes (suc t)) ∙ lab.zeros (suc t) (omega arith) (omega arith)) in
-          native.Mathlib.Fin.val_path {i = v} {j = own} (e ∙ power-sum_places y yc (suc t))
+          let gone : label ≡ oq.zero = native.Mathlib.Fin.val_path (sym (power_sum_places c lab.codes (suc t)) ∙ lab.zeros (suc t) (omega arith) (omega arith)) in
+          native.Mathlib.Fin.val_path {i = v} {j = own} (e ∙ power_sum_places y yc (suc t))
           ∙ Solver.ring oq L.ring (own ∷ []) {y = oq.sum own (oq.neg oq.zero)} (search reify depth 30) tt
           ∙ ap (λ z. oq.sum own (oq.neg z)) (sym gone)
           ∙ sym (Sums.sums_difference oq L.ring n (entry y yc) (entry c lab.codes) (λ p. pow oq (point p) (suc t)))

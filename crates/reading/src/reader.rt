@@ -2,7 +2,7 @@
 ghost use Rattle.std.specs.Prelude.{◌≡◌, ℕ, ◌+◌, ◌-◌, ◌*◌, ◌%◌, ◌^◌, ◌<◌, ◌≤◌, List, length, MatchBool, MatchOption, MatchResult, OnErr};
 ghost use Rattle.algebra.specs.Counts.{count as count_of};
 ghost use Rattle.arithmetic.specs.Meaning.{Codes};
-ghost use Rattle.label.specs.Labels.{Different, door as door-of};
+ghost use Rattle.label.specs.Labels.{Different, door as door_of};
 ghost use Rattle.label.specs.Schemes.{IsScheme};
 ghost use Rattle.reading.specs.Answers.{NoText, NotRead, NotReady, ReadBack, Reads, Ready, WellFormed};
 ghost use Rattle.reading.specs.Working.{Near, Points, PowerSums, Zero, at, marked, wrong};
@@ -66,7 +66,7 @@ fn take<R: Reading>(
 /// The number in base `q` that the first `k` places of a row are, modulo 2^32.
 fn door_number(q: u32, k: usize, row: &[u32]) -> u32
     requires { k ≤ length row.now }
-    ensures { result ≡ door-of q k row.now % 2 ^ 32 }
+    ensures { result ≡ door_of q k row.now % 2 ^ 32 }
 {
     let mut door: u32 = 0;
     for p in 0..k {

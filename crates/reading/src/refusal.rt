@@ -1,6 +1,6 @@
 // Why a reading is refused.
 ghost use Rattle.std.specs.Prelude.{◌≡◌};
-ghost use Rattle.reading.specs.Refusals.{number as refusal-number, place as refusal-place};
+ghost use Rattle.reading.specs.Refusals.{number as refusal_number, place as refusal_place};
 
 /// Why a reading is refused. Each refusal has a number and a place.
 #[derive(Clone, Copy)]
@@ -22,7 +22,7 @@ pub enum Refusal {
 impl Refusal {
     /// The refusal's number.
     pub fn number(self) -> u32
-        ensures { result ≡ refusal-number self }
+        ensures { result ≡ refusal_number self }
     {
         match self {
             Refusal::NoText => 11,
@@ -36,7 +36,7 @@ impl Refusal {
 
     /// The refusal's place: that of the piece for 15, and 0 for the others.
     pub fn place(self) -> u32
-        ensures { result ≡ refusal-place self }
+        ensures { result ≡ refusal_place self }
     {
         match self {
             Refusal::NoCell(place) => place,

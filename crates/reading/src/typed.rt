@@ -1,7 +1,7 @@
 // Typed entries: readings of characters.
 ghost use Rattle.std.specs.Prelude.{◌≡◌, ℕ, ◌<◌, MatchOption, ◌≢◌};
 ghost use Rattle.label.specs.Labels.{character};
-ghost use Rattle.reading.specs.Readings.{typed as typed-entry};
+ghost use Rattle.reading.specs.Readings.{typed as typed_entry};
 
 use crate::cell::Cell;
 use crate::reading::Reading;
@@ -29,7 +29,7 @@ impl<'a> Reading for Typed<'a> {
 
     const SMUDGE: u8 = b'?';
 
-    ghost shown = { λ s. typed-entry s.0.now };
+    ghost shown = { λ s. typed_entry s.0.now };
 
     fn is_text(&self) -> bool {
         true

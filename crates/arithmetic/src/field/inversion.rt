@@ -1,7 +1,7 @@
 // Inversion in a binary field by its triangular and canonical bases.
 ghost use Rattle.std.specs.Prelude.{◌≡◌, ◌+◌, ◌-◌, ◌*◌, ◌^◌, ◌<◌, ◌≤◌, length, MatchResult, ◌≢◌, slice_index};
-ghost use Rattle.algebra.specs.Binary.{bit as bit-of, value};
-ghost use Rattle.algebra.specs.Coordinates.{coordinates as coordinates-of, next, total};
+ghost use Rattle.algebra.specs.Binary.{bit as bit_of, value};
+ghost use Rattle.algebra.specs.Coordinates.{coordinates as coordinates_of, next, total};
 ghost use Rattle.arithmetic.specs.Answers.{NoInverse};
 ghost use Rattle.arithmetic.specs.Inverting.{Inverts};
 ghost use Rattle.arithmetic.specs.Meaning.{Codes, field_of, residues};
@@ -16,7 +16,7 @@ use crate::residues::Bits;
 /// The bit i of a number.
 fn bit(a: u32, i: u32) -> u32
     requires { i < 32 }
-    ensures value { result ≡ bit-of a i }
+    ensures value { result ≡ bit_of a i }
     ensures bound { result < 2 }
 {
     (a >> i) & 1
@@ -27,7 +27,7 @@ fn weighed(f: u32, from: u32, row: &[u32]) -> u32
     requires within { from + length row.now ≤ 32 }
     requires bits { Codes (residues 2 1) row.now }
     ensures bound { result ≤ length row.now }
-    ensures value { result ≡ total (length row.now) (λ i. bit-of f (from + i) * slice_index row.now i) }
+    ensures value { result ≡ total (length row.now) (λ i. bit_of f (from + i) * slice_index row.now i) }
 {
     let mut sum = 0;
     for i in 0..row.len() {
@@ -75,7 +75,7 @@ impl BinaryField {
     /// Writes the coordinates h_0, h_1, .. of an element into a row.
     fn coordinates(&self, a: u32, row: &mut [u32])
         requires { length row.old ≤ 2 * self.now.degree }
-        ensures { row.new ≡ coordinates-of self.now.polynomial self.now.degree a (length row.old) }
+        ensures { row.new ≡ coordinates_of self.now.polynomial self.now.degree a (length row.old) }
     {
         for j in 0..row.len() {
             let h = self.coordinate(a, &row[0..j]);
@@ -87,7 +87,7 @@ impl BinaryField {
     ///
     /// Refused by 3 where the element is no code, then by 13 where the row has another length; then the row is as it was.
     pub fn triangular(&self, a: u32, row: &mut [u32]) -> Result<(), Refusal>
-        ensures { MatchResult result (λ _. (a < 2 ^ self.now.degree) × (length row.old ≡ self.now.degree) × (row.new ≡ coordinates-of self.now.polynomial self.now.degree a self.now.degree)) (λ e. (row.new ≡ row.old) × (2 ^ self.now.degree ≤ a → Refused e 3) × (a < 2 ^ self.now.degree → (length row.old ≢ self.now.degree) × Refused e 13)) }
+        ensures { MatchResult result (λ _. (a < 2 ^ self.now.degree) × (length row.old ≡ self.now.degree) × (row.new ≡ coordinates_of self.now.polynomial self.now.degree a self.now.degree)) (λ e. (row.new ≡ row.old) × (2 ^ self.now.degree ≤ a → Refused e 3) × (a < 2 ^ self.now.degree → (length row.old ≢ self.now.degree) × Refused e 13)) }
     {
         if a >= self.codes() {
             return Err(Refusal::NotACode);

@@ -4,8 +4,8 @@ use native.Mathlib.Nat.{mod-one}
 use lib.Bits.{bit_xor, bit_and, and_mask, xor_shifted, xor_comm}
 use lib.Pow.{mod-pow-add}
 use Rattle.algebra.specs.Binary.{times}
-use Rattle.algebra.proofs.BinaryProducts.{times-zero_r, times_xor_r}
-use Rattle.algebra.proofs.BinaryDegrees.{times-pow_r}
+use Rattle.algebra.proofs.BinaryProducts.{times_zero_r, times_xor_r}
+use Rattle.algebra.proofs.BinaryDegrees.{times_pow_r}
 use Rattle.arithmetic.proofs.polynomial.product.Goals as goal
 use Rattle.arithmetic.proofs.polynomial.product.Goals.{then-b-i-eq1, else-b-i-eq1}
 
@@ -17,14 +17,14 @@ set_more : (a b i : ℕ) → bit_and (b / 2 ^ i) 1 ≡ 1 → times a (b % 2 ^ (i
 set_more a b i e =
     ap (times a) (low-more b i ∙ ap (λ (x : ℕ). x * 2 ^ i + b % 2 ^ i) e ∙ sym (xor_shifted 1 i (b % 2 ^ i) (mod-lt b (pow_pos i))))
     ∙ times_xor_r a (1 * 2 ^ i) (b % 2 ^ i)
-    ∙ ap (λ (x : ℕ). bit_xor x (times a (b % 2 ^ i))) (ap (times a) (one-mul (2 ^ i)) ∙ times-pow_r a i)
+    ∙ ap (λ (x : ℕ). bit_xor x (times a (b % 2 ^ i))) (ap (times a) (one-mul (2 ^ i)) ∙ times_pow_r a i)
     ∙ xor_comm (a * 2 ^ i) (times a (b % 2 ^ i))
 
 clear-more : (a b i : ℕ) → bit_and (b / 2 ^ i) 1 ≡ 0 → times a (b % 2 ^ (i + 1)) ≡ times a (b % 2 ^ i)
 clear-more a b i e = ap (times a) (low-more b i ∙ ap (λ (x : ℕ). x * 2 ^ i + b % 2 ^ i) e ∙ omega arith)
 
 pub loop-i-init : goal.loop-i-init
-loop-i-init c = sym (ap (times c.args.a) (mod-one c.args.b) ∙ times-zero_r c.args.a)
+loop-i-init c = sym (ap (times c.args.a) (mod-one c.args.b) ∙ times_zero_r c.args.a)
 
 pub loop-i-preserved : goal.loop-i-preserved
 loop-i-preserved c =
