@@ -115,7 +115,7 @@ SCHEMES_SAMPLED = [
 ]
 LABEL_SAMPLES = 6
 
-# Lines of `labels` that ask for readings, each with its answer.
+# Lines of `readings` that ask for readings, each with its answer.
 READING_EXAMPLES = [
     ("read 1267", "no query"),
     ("scan 1 2 6 7", "no query"),
@@ -353,11 +353,12 @@ def check_label_examples() -> None:
     for code, character in ((0, "0"), (9, "9"), (10, "A"), (35, "Z"), (36, "-"),
                             (37, "a"), (62, "z"), (63, "+")):
         expect(ALPHABET[code] == character, f"character of {code}")
-    answer_line = labels_program.start()
-    for line, expected in LABEL_EXAMPLES:
-        expect(answer_line(line.encode()) == expected, f"labels example {line}")
-    for line in filter(None, labels_program.NO_QUERIES):
-        expect(labels_program.parse(line.encode()) is None, f"no query: {line!r}")
+    for program in (labels_program, readings_program):
+        answer_line = program.start()
+        for line, expected in LABEL_EXAMPLES:
+            expect(answer_line(line.encode()) == expected, f"labels example {line}")
+        for line in filter(None, labels_program.NO_QUERIES):
+            expect(program.parse(line.encode()) is None, f"no query: {line!r}")
 
 
 def check_row_by_row(line: str) -> int:

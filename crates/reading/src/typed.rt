@@ -1,7 +1,7 @@
 // Typed entries: readings of characters.
-ghost use Rattle.std.specs.Prelude.{◌≡◌, ℕ, ◌<◌, MatchOption, ◌≢◌};
+ghost use Rattle.std.specs.Prelude.{◌≡◌, ℕ, ◌<◌, ◌≤◌, MatchOption, ◌≢◌};
 ghost use Rattle.label.specs.Labels.{character};
-ghost use Rattle.reading.specs.Readings.{typed as typed_entry};
+ghost use Rattle.reading.specs.Readings.{CodeBelow, code_with, typed as typed_entry};
 
 use crate::cell::Cell;
 use crate::reading::Reading;
@@ -22,6 +22,21 @@ fn code_of(byte: u8) -> Option<u32>
         b'+' => Some(63),
         _ => None,
     }
+}
+
+/// The cell of a byte that is not a smudge, for an arithmetic of `q` elements: the code whose character it is.
+fn character_cell(byte: u8, q: u32) -> Option<Cell>
+    requires { q ≤ 64 }
+    ensures value { result ≡ code_with q byte }
+    ensures code { CodeBelow q result }
+{
+    let Some(code) = code_of(byte) else {
+        return None;
+    };
+    if code < q {
+        return Some(Cell::Code(code));
+    }
+    None
 }
 
 impl<'a> Reading for Typed<'a> {
@@ -47,12 +62,6 @@ impl<'a> Reading for Typed<'a> {
         if piece == Self::SMUDGE {
             return Some(Cell::Smudge);
         }
-        let Some(code) = code_of(piece) else {
-            return None;
-        };
-        if code < q {
-            return Some(Cell::Code(code));
-        }
-        None
+        character_cell(piece, q)
     }
 }
