@@ -59,7 +59,7 @@ fn write_generator<A: Arithmetic>(arithmetic: &A, row: &mut [u32], copy: &mut [u
 
 /// Divides the polynomial with the coefficients `digits`, the highest first, by the generator: `row` then holds the register.
 fn divide<A: Arithmetic>(arithmetic: &A, digits: &[u32], row: &mut [u32], generator: &[u32])
-    requires row_nonzero { (0 < length row.old) × (length generator.now ≡ length row.old + 1) }
+    requires lengths { (0 < length row.old) × (length generator.now ≡ length row.old + 1) }
     requires digit_codes { Codes (A.Arithmetic.meaning arithmetic.now) digits.now }
     requires generates { (t : ℕ) → t < length generator.now → slice_index generator.now t ≡ generator_of (A.Arithmetic.meaning arithmetic.now).codes (A.Arithmetic.meaning arithmetic.now).step (length row.old) t }
     requires generator_codes { Codes (A.Arithmetic.meaning arithmetic.now) generator.now }
