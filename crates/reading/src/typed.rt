@@ -24,7 +24,8 @@ fn code_of(byte: u8) -> Option<u32>
     }
 }
 
-/// The cell of a byte that is not a smudge, for an arithmetic of `q` elements: the code whose character it is.
+/// The cell of a byte that is not a smudge, for an arithmetic of `q` elements: the code below `q` whose character it is, and none
+/// where it is the character of no such code.
 fn character_cell(byte: u8, q: u32) -> Option<Cell>
     requires { q ≤ 64 }
     ensures value { result ≡ code_with q byte }
