@@ -14,4 +14,4 @@ pub use interface::Arithmetic;
 pub use iteration::{all_codes, iterate};
 pub use refusal::Refusal;
 pub use residues::{Bits, Residues};
-pub use values::{evaluate, less};
+pub use values::{evaluate, less, write_powers};

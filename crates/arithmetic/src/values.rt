@@ -1,4 +1,6 @@
-// A difference a - b c and the value of a polynomial, in any arithmetic.
+// A difference a - b c, the value of a polynomial, and the powers of the step, in any arithmetic.
+ghost use Rattle.std.specs.Prelude.{◌≡◌, ℕ, ◌<◌, length, slice_index};
+ghost use Rattle.algebra.specs.Polynomials.{pow};
 ghost use Rattle.arithmetic.specs.Answers.{OfRow, OfThree};
 
 use crate::interface::Arithmetic;
@@ -22,4 +24,16 @@ pub fn evaluate<A: Arithmetic>(arithmetic: &A, row: &[u32], x: u32) -> Result<u3
         value = arithmetic.sum(arithmetic.product(value, x)?, *c)?;
     }
     Ok(value)
+}
+
+/// Writes the powers of the step, from the power 0 on, into a row.
+pub fn write_powers<A: Arithmetic>(arithmetic: &A, row: &mut [u32])
+    ensures { (i : ℕ) → i < length row.old → (slice_index row.new i ≡ pow (A.Arithmetic.meaning arithmetic.now).codes (A.Arithmetic.meaning arithmetic.now).step i) × (slice_index row.new i < (A.Arithmetic.meaning arithmetic.now).size) }
+{
+    let step = arithmetic.step();
+    let mut power = arithmetic.one();
+    for x in row.iter_mut() {
+        *x = power;
+        power = arithmetic.product(step, power).unwrap();
+    }
 }
