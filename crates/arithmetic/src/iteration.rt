@@ -13,12 +13,7 @@ use crate::values::less;
 pub fn all_codes<A: Arithmetic>(arithmetic: &A, row: &[u32]) -> bool
     ensures { MatchBool result (Codes (A.Arithmetic.meaning arithmetic.now) row.now) (Codes (A.Arithmetic.meaning arithmetic.now) row.now → ⊥) }
 {
-    for a in row {
-        if *a >= arithmetic.size() {
-            return false;
-        }
-    }
-    true
+    row.iter().all(|a| *a < arithmetic.size())
 }
 
 /// One more than the degree of the polynomial in a row, and 0 for the zero polynomial.
@@ -26,12 +21,7 @@ fn terms<A: Arithmetic>(arithmetic: &A, row: &[u32]) -> usize
     ensures { result ≡ terms_of (A.Arithmetic.meaning arithmetic.now).codes (length row.now) (polynomial_of row.now) }
 {
     let zero = arithmetic.zero();
-    for i in (0..row.len()).rev() {
-        if row[i] != zero {
-            return i + 1;
-        }
-    }
-    0
+    row.iter().rposition(|a| *a != zero).map_or(0, |i| i + 1)
 }
 
 /// Takes c z^d times the first `n` terms of the polynomial in `small` from that in `big`.
@@ -50,8 +40,8 @@ fn subtract<A: Arithmetic>(
     requires small_codes { Codes (A.Arithmetic.meaning arithmetic.now) small.now }
     ensures { (t : ℕ) → slice_index big.new t ≡ less_at (A.Arithmetic.meaning arithmetic.now).codes big.old small.now n c d t }
 {
-    for i in 0..n {
-        big[i + d] = less(arithmetic, big[i + d], c, small[i]).unwrap();
+    for (i, a) in big[d..d + n].iter_mut().enumerate() {
+        *a = less(arithmetic, *a, c, small[i]).unwrap();
     }
 }
 

@@ -1,34 +1,31 @@
 -- What the proof of `iteration::terms` leaves to be shown.
-use Rattle.std.proofs.Common.{◌≡◌, ℕ, zero, suc, ◌-◌, ◌<◌, cond, eqb, sym, ap, ◌∙◌, not-suc-le-zero, arith, eq-eqb, ne_eqb}
-use Rattle.algebra.specs.Operations.{Operations}
+use Rattle.std.proofs.Common.{rules, ◌≡◌, ℕ, zero, suc, ◌-◌, ◌<◌, ◌≤◌, length, ◌≢◌, get_or, refl, arith}
+use native.Mathlib.Decide.{dec_le}
+use Rattle.std.proofs.iter.runs.Made.{chains}
+use Rattle.algebra.specs.Operations.{Operations, Tested}
 use Rattle.algebra.specs.Polynomials.{terms}
+use Rattle.algebra.proofs.Terms.{tested, terms_beyond, terms_le, terms_top}
 use Rattle.arithmetic.specs.Rows.{polynomial_of}
 use Rattle.arithmetic.proofs.iteration.terms.Goals as goal
 
--- the terms below z^i, where the last of these coefficients is zero and where it is not
-module _ (o : Operations ℕ) (tests : (a : ℕ) → o.zero? a ≡ eqb a o.zero) (p : ℕ → ℕ) where
-  none_last : (i : ℕ) → 0 < i → p (i - 1) ≡ o.zero → terms o i p ≡ terms o (i - 1) p
-  none_last zero h e = absurd (not-suc-le-zero h)
-  none_last (suc i) h e =
-      let f : suc i - 1 ≡ i = omega arith in
-      ap (λ b. cond b (terms o i p) (suc i)) (tests (p i) ∙ eq-eqb (p i) o.zero (ap p (sym f) ∙ e)) ∙ ap (λ (x : ℕ). terms o x p) (sym f)
+-- the terms of p below z^n, where the place before v holds the last coefficient that is not zero
+terms_is : (o : Operations ℕ) → Tested o → (n : ℕ) (p : ℕ → ℕ) (v : ℕ) → v ≤ n → (0 < v → p (v - 1) ≢ o.zero) → ((k : ℕ) → v ≤ k → k < n → p k ≡ o.zero) → v ≡ terms o n p
+terms_is o Z n p v within last above = elim (dec_le v (terms o n p)) [
+  | yes l ↦ go (terms o n p) refl l
+  | no l ↦ absurd (last (omega arith) (terms_beyond o Z n p (v - 1) (omega arith) (omega arith)))
+]
+  where
+    go : (t : ℕ) → terms o n p ≡ t → v ≤ t → v ≡ terms o n p
+    go zero e l = omega arith
+    go (suc d) e l = elim (dec_le v d) [
+      | yes k ↦ absurd (terms_top o Z n p d e (above d k (omega (arith, terms_le o Z n p))))
+      | no k ↦ omega arith
+    ]
 
-  one_last : (i : ℕ) → 0 < i → (p (i - 1) ≡ o.zero → ⊥) → terms o i p ≡ i
-  one_last zero h e = absurd (not-suc-le-zero h)
-  one_last (suc i) h e =
-      let f : suc i - 1 ≡ i = omega arith in
-      ap (λ b. cond b (terms o i p) (suc i)) (tests (p i) ∙ ne_eqb (p i) o.zero (λ z. e (ap p f ∙ z)))
-
-pub returns-then-row-i : goal.returns-then-row-i
-returns-then-row-i g c =
+pub returns : goal.returns
+returns g c =
     let m = g.A.Arithmetic.meaning c.args.arithmetic.now in
-    let e = one_last m.codes (g.met.A.Arithmetic.lawful c.args.arithmetic.now).tests (polynomial_of c.args.row.now) c.loop-i.i
-    c.loop-i-test.true (λ z. c.if-row-i.true (z ∙ sym c.zero-zero.ensures.0)) in
-    omega (arith, c.loop-i.invariant ∙ e)
-
-pub loop-i-preserved : goal.loop-i-preserved
-loop-i-preserved g c =
-    let m = g.A.Arithmetic.meaning c.args.arithmetic.now in
-    c.loop-i.invariant
-    ∙ none_last m.codes (g.met.A.Arithmetic.lawful c.args.arithmetic.now).tests (polynomial_of c.args.row.now) c.loop-i.i
-    c.loop-i-test.true (c.if-row-i.false ∙ c.zero-zero.ensures.0)
+    let row = c.args.row.now in
+    let v = c.map_or.result in
+    let h : (v ≤ length row) × (0 < v → get_or row (v - 1) 0 ≢ m.codes.zero) × ((k : ℕ) → v ≤ k → k < length row → get_or row k 0 ≡ m.codes.zero) = search (rules, chains) in
+    terms_is m.codes (tested m.codes (g.met.A.Arithmetic.lawful c.args.arithmetic.now).tests) (length row) (polynomial_of row) v h.0 h.1 h.2
