@@ -1,4 +1,5 @@
 pub mod Table
+pub mod Sums
 pub mod Steps
 pub mod Runs
 pub mod Inverting

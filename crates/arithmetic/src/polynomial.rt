@@ -21,6 +21,7 @@ pub(crate) fn remainder(a: u64, b: u64) -> u64
     let Some(n) = degree(b) else {
         return a;
     };
+    // The project's rule: the remainder is that of what is left by the same divisor, so the function calls itself.
     match degree(a) {
         Some(m) if m >= n => remainder(a ^ (b << (m - n)), b),
         _ => a,
@@ -31,13 +32,9 @@ pub(crate) fn remainder(a: u64, b: u64) -> u64
 pub(crate) fn product(a: u32, b: u32) -> u64
     ensures { result ≡ times a b }
 {
-    let mut sum: u64 = 0;
-    for i in 0..32u32 {
-        if (b >> i) & 1 == 1 {
-            sum ^= (a as u64) << i;
-        }
-    }
-    sum
+    (0..32u32)
+        .filter(|i| (b >> i) & 1 == 1)
+        .fold(0, |sum, i| sum ^ (u64::from(a) << i))
 }
 
 /// Whether `f`, of degree `m`, has a factor of a degree from 1 to `m` - 1.
@@ -47,6 +44,7 @@ pub(crate) fn has_factor(f: u32, m: u32) -> bool
     requires { m < 32 }
     ensures { MatchBool result ((x : ℕ) × Factor f m x) (NoFactor f m) }
 {
+    // The project's rule: the search is two loops, over degree and pattern, and a factor leaves both at once.
     let mut found = false;
     'search: for degree in 1..m {
         for pattern in 0..(1u32 << degree) {

@@ -20,6 +20,7 @@ pub fn evaluate<A: Arithmetic>(arithmetic: &A, row: &[u32], x: u32) -> Result<u3
     ensures { OfRow (A.Arithmetic.meaning arithmetic.now) row.now x result }
 {
     let mut value = arithmetic.zero();
+    // A try_fold would be no plainer: its closure has the same two calls, each with `?`.
     for c in row {
         value = arithmetic.sum(arithmetic.product(value, x)?, *c)?;
     }

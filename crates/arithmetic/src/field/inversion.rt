@@ -29,11 +29,10 @@ fn weighed(f: u32, from: u32, row: &[u32]) -> u32
     ensures bound { result ≤ length row.now }
     ensures value { result ≡ total (length row.now) (λ i. bit_of f (from + i) * slice_index row.now i) }
 {
-    let mut sum = 0;
-    for i in 0..row.len() {
-        sum += bit(f, from + i as u32) * row[i];
-    }
-    sum
+    row.iter()
+        .enumerate()
+        .map(|(i, b)| bit(f, from + i as u32) * b)
+        .sum()
 }
 
 /// The number whose bits a row holds, the lowest first.
@@ -42,11 +41,7 @@ fn number(bits: &[u32]) -> u32
     requires bits { Codes (residues 2 1) bits.now }
     ensures { result ≡ value (length bits.now) (polynomial_of bits.now) }
 {
-    let mut sum = 0;
-    for i in 0..bits.len() {
-        sum += bits[i] << i;
-    }
-    sum
+    bits.iter().enumerate().map(|(i, b)| b << i).sum()
 }
 
 /// An inverse, with the number of iterations that it took.
@@ -77,9 +72,9 @@ impl BinaryField {
         requires { length row.old ≤ 2 * self.now.degree }
         ensures { row.new ≡ coordinates_of self.now.polynomial self.now.degree a (length row.old) }
     {
+        // An iterator over the row would be no plainer: each coordinate comes of those before it in the same row.
         for j in 0..row.len() {
-            let h = self.coordinate(a, &row[0..j]);
-            row[j] = h;
+            row[j] = self.coordinate(a, &row[..j]);
         }
     }
 
