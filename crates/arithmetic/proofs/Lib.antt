@@ -1,4 +1,3 @@
-pub mod Table
 pub mod Sums
 pub mod Steps
 pub mod Runs

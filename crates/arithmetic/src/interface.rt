@@ -1,7 +1,8 @@
 // The interface of an arithmetic of label characters.
-ghost use Rattle.std.specs.Prelude.{◌≡◌, ◌<◌};
+ghost use Rattle.std.specs.Prelude.{◌≡◌, ◌<◌, ◌≤◌, MatchResult};
 ghost use Rattle.arithmetic.specs.Meaning.{Meaning, Lawful};
 ghost use Rattle.arithmetic.specs.Answers.{OfOne, OfTwo, OfInverse};
+ghost use Rattle.arithmetic.specs.Refusals.{Refused};
 
 use crate::refusal::Refusal;
 
@@ -38,4 +39,15 @@ pub trait Arithmetic {
         ensures { OfInverse (meaning self.now) a result };
 
     ghost lawful: { (a : Self) → Lawful (meaning a) };
+}
+
+/// Refuses a number by 3 unless it is a code, below `size`.
+pub(crate) fn check_code(a: u32, size: u32) -> Result<(), Refusal>
+    ensures { MatchResult result (λ _. a < size) (λ e. (size ≤ a) × Refused e 3) }
+{
+    if a < size {
+        Ok(())
+    } else {
+        Err(Refusal::NotACode)
+    }
 }
