@@ -1,13 +1,14 @@
 // Binary fields.
-ghost use Rattle.std.specs.Prelude.{◌≡◌, ℕ, ◌^◌, MatchOption, MatchResult};
+ghost use Rattle.std.specs.Prelude.{◌≡◌, ℕ, ◌^◌, MatchResult};
 ghost use Rattle.algebra.specs.Binary.{NoFactor};
 ghost use Rattle.arithmetic.specs.Meaning.{field_of};
 ghost use Rattle.arithmetic.specs.Opening.{RightDegree, NotOpened};
 ghost use Rattle.arithmetic.specs.Lawful.{field_lawful};
+ghost use Rattle.arithmetic.specs.Refusals.{Refused};
 
 mod inversion;
 
-use crate::interface::Arithmetic;
+use crate::interface::{Arithmetic, check_code};
 use crate::polynomial;
 use crate::refusal::Refusal;
 pub use inversion::Inverted;
@@ -23,17 +24,13 @@ pub struct BinaryField {
     ghost no_factor: { NoFactor polynomial degree },
 }
 
-/// The degree of a polynomial, where it is from 2 to 16.
-fn right_degree(polynomial: u32) -> Option<u32>
-    ensures { MatchOption result ((m : ℕ) → RightDegree polynomial m → ⊥) (λ m. RightDegree polynomial m) }
+/// The degree of a polynomial. Refused by 1 where it is not from 2 to 16.
+fn right_degree(polynomial: u32) -> Result<u32, Refusal>
+    ensures { MatchResult result (RightDegree polynomial) (λ e. ((m : ℕ) → RightDegree polynomial m → ⊥) × Refused e 1) }
 {
-    let Some(m) = polynomial::degree(polynomial as u64) else {
-        return None;
-    };
-    if m < 2 || m > 16 {
-        return None;
-    }
-    Some(m)
+    polynomial::degree(u64::from(polynomial))
+        .filter(|m| (2..=16).contains(m))
+        .ok_or(Refusal::WrongDegree)
 }
 
 impl BinaryField {
@@ -41,9 +38,7 @@ impl BinaryField {
     pub fn open(polynomial: u32) -> Result<BinaryField, Refusal>
         ensures { MatchResult result (λ f. f.polynomial ≡ polynomial) (NotOpened polynomial) }
     {
-        let Some(degree) = right_degree(polynomial) else {
-            return Err(Refusal::WrongDegree);
-        };
+        let degree = right_degree(polynomial)?;
         if polynomial::has_factor(polynomial, degree) {
             return Err(Refusal::HasFactor);
         }
@@ -87,31 +82,24 @@ impl Arithmetic for BinaryField {
     }
 
     fn sum(&self, a: u32, b: u32) -> Result<u32, Refusal> {
-        if a < self.codes() && b < self.codes() {
-            Ok(a ^ b)
-        } else {
-            Err(Refusal::NotACode)
-        }
+        check_code(a, self.codes())?;
+        check_code(b, self.codes())?;
+        Ok(a ^ b)
     }
 
     fn negative(&self, a: u32) -> Result<u32, Refusal> {
-        if a < self.codes() {
-            Ok(a)
-        } else {
-            Err(Refusal::NotACode)
-        }
+        check_code(a, self.codes())?;
+        Ok(a)
     }
 
     fn product(&self, a: u32, b: u32) -> Result<u32, Refusal> {
-        if a < self.codes() && b < self.codes() {
-            Ok(polynomial::remainder(polynomial::product(a, b), self.polynomial as u64) as u32)
-        } else {
-            Err(Refusal::NotACode)
-        }
+        check_code(a, self.codes())?;
+        check_code(b, self.codes())?;
+        let product = polynomial::product(a, b);
+        Ok(polynomial::remainder(product, u64::from(self.polynomial)) as u32)
     }
 
     fn inverse(&self, a: u32) -> Result<u32, Refusal> {
-        let inverted = self.invert(a)?;
-        Ok(inverted.inverse)
+        Ok(self.invert(a)?.inverse)
     }
 }

@@ -1,16 +1,12 @@
 // Polynomials with coefficients modulo 2, as numbers: bit i is the coefficient of z^i.
-ghost use Rattle.std.specs.Prelude.{◌≡◌, ℕ, ◌<◌, Some, None, MatchBool};
+ghost use Rattle.std.specs.Prelude.{◌≡◌, ℕ, ◌<◌, MatchBool, MatchOption};
 ghost use Rattle.algebra.specs.Binary.{Degree, Factor, NoFactor, remainder as remainder_of, times};
 
 /// The degree of a polynomial; none for 0.
 pub(crate) fn degree(a: u64) -> Option<u32>
-    ensures { elim result [ None ↦ a ≡ 0 | Some d ↦ (d < 64) × Degree a d ] }
+    ensures { MatchOption result (a ≡ 0) (λ d. (d < 64) × Degree a d) }
 {
-    if a == 0 {
-        None
-    } else {
-        Some(63 - a.leading_zeros())
-    }
+    a.checked_ilog2()
 }
 
 /// The remainder of `a` by `b`, which is not 0.

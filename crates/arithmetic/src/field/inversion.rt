@@ -9,6 +9,7 @@ ghost use Rattle.arithmetic.specs.Refusals.{Refused};
 ghost use Rattle.arithmetic.specs.Rows.{Fitting, polynomial_of};
 
 use crate::field::BinaryField;
+use crate::interface::check_code;
 use crate::iteration::iterate;
 use crate::refusal::Refusal;
 use crate::residues::Bits;
@@ -84,9 +85,7 @@ impl BinaryField {
     pub fn triangular(&self, a: u32, row: &mut [u32]) -> Result<(), Refusal>
         ensures { MatchResult result (λ _. (a < 2 ^ self.now.degree) × (length row.old ≡ self.now.degree) × (row.new ≡ coordinates_of self.now.polynomial self.now.degree a self.now.degree)) (λ e. (row.new ≡ row.old) × (2 ^ self.now.degree ≤ a → Refused e 3) × (a < 2 ^ self.now.degree → (length row.old ≢ self.now.degree) × Refused e 13)) }
     {
-        if a >= self.codes() {
-            return Err(Refusal::NotACode);
-        }
+        check_code(a, self.codes())?;
         if row.len() != self.degree as usize {
             return Err(Refusal::WrongLength);
         }
@@ -132,9 +131,7 @@ impl BinaryField {
     pub fn invert(&self, a: u32) -> Result<Inverted, Refusal>
         ensures { MatchResult result (λ v. (0 < a) × (a < 2 ^ self.now.degree) × Inverts self.now.polynomial self.now.degree a v.inverse v.iterations) (NoInverse (field_of self.now.polynomial self.now.degree) a) }
     {
-        if a >= self.codes() {
-            return Err(Refusal::NotACode);
-        }
+        check_code(a, self.codes())?;
         if a == 0 {
             return Err(Refusal::InverseOfZero);
         }

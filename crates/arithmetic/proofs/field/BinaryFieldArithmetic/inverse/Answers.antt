@@ -14,8 +14,8 @@ returns c =
     let h = f.right_degree.0 in
     let none = f.no_factor in
     let a = c.args.a in
-    let b = c.in_ok-inverted.inverted.inverse in
-    let v = c.in_ok-inverted.ensures in
+    let b = c.in_ok-invert.field-0.inverse in
+    let v = c.in_ok-invert.ensures in
     let pos : 1 ≤ m = omega arith in (
       v.1,
       (λ e. omega (arith, v.0)),

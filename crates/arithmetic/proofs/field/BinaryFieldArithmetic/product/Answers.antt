@@ -11,16 +11,18 @@ low F m a r h e = subst (λ (x : ℕ). x < 2 ^ m) (sym e) (remainder_lt F m h a)
 pub overflow_cast-result : goal.overflow_cast-result
 overflow_cast-result c =
     let f = c.args.self.now in
+    let e : c.remainder.result ≡ remainder c.product-product.result f.polynomial = rw c.from.ensures at c.remainder.ensures in
     let l : c.remainder.result < 2 ^ 16
-    = lt_of_lt_of_le (low f.polynomial f.degree c.product.result c.remainder.result f.right_degree.0 c.remainder.ensures) (pow_mono f.right_degree.2) in
+    = lt_of_lt_of_le (low f.polynomial f.degree c.product-product.result c.remainder.result f.right_degree.0 e) (pow_mono f.right_degree.2) in
     record { fits = omega arith }
 
-pub returns-then-b-codes : goal.returns-then-b-codes
+pub returns : goal.returns
 unfolding product
-returns-then-b-codes c =
-    let f = c.args.self.now in (
+returns c =
+    let f = c.args.self.now in
+    let e : c.remainder.result ≡ remainder c.product-product.result f.polynomial = rw c.from.ensures at c.remainder.ensures in (
       omega arith,
       omega arith,
-      low f.polynomial f.degree c.product.result c.remainder.result f.right_degree.0 c.remainder.ensures,
-      c.remainder.ensures ∙ ap (λ (x : ℕ). remainder x f.polynomial) c.product.ensures,
+      low f.polynomial f.degree c.product-product.result c.remainder.result f.right_degree.0 e,
+      e ∙ ap (λ (x : ℕ). remainder x f.polynomial) c.product-product.ensures,
     )

@@ -3,8 +3,8 @@ use Rattle.std.proofs.Common.{◌^◌, ◌<◌, refl, arith}
 use lib.Bits.{xor_lt}
 use Rattle.arithmetic.proofs.field.BinaryFieldArithmetic.sum.Goals as goal
 
-pub returns-then-b-codes : goal.returns-then-b-codes
-returns-then-b-codes c =
+pub returns : goal.returns
+returns c =
     let m = c.args.self.now.degree in
     let ha : c.args.a < 2 ^ m = omega arith in
     let hb : c.args.b < 2 ^ m = omega arith in
