@@ -28,9 +28,10 @@ pub struct BinaryField {
 fn right_degree(polynomial: u32) -> Result<u32, Refusal>
     ensures { MatchResult result (RightDegree polynomial) (λ e. ((m : ℕ) → RightDegree polynomial m → ⊥) × Refused e 1) }
 {
-    polynomial::degree(u64::from(polynomial))
-        .filter(|m| (2..=16).contains(m))
-        .ok_or(Refusal::WrongDegree)
+    match polynomial::degree(u64::from(polynomial)) {
+        Some(m) if (2..=16).contains(&m) => Ok(m),
+        _ => Err(Refusal::WrongDegree),
+    }
 }
 
 impl BinaryField {

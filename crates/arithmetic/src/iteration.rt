@@ -114,6 +114,7 @@ impl Progress {
     }
 }
 
+// A struct of the four rows would be no plainer: each function would reborrow them and promise that it keeps the same four.
 /// One iteration on the pairs in the rows.
 fn iterate_once<A: Arithmetic>(
     arithmetic: &A,

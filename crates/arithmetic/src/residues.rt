@@ -1,5 +1,6 @@
 // The residues modulo a number.
-ghost use Rattle.std.specs.Prelude.{ℕ};
+ghost use Rattle.std.specs.Prelude.{◌≡◌, ℕ, ◌<◌, MatchOption, ◌≢◌};
+ghost use Rattle.algebra.specs.Codes.{modulo};
 ghost use Rattle.arithmetic.specs.Meaning.{Lawful, residues};
 ghost use Rattle.arithmetic.specs.Lawful.{bits_lawful, residues_37_lawful};
 
@@ -52,6 +53,14 @@ impl Modular for Residues {
     ghost field = { residues_37_lawful };
 }
 
+/// The inverse of a residue; none for 0.
+fn reciprocal<M: Modular>(a: u32) -> Option<u32>
+    requires { a < M.MODULUS }
+    ensures { MatchOption result (a ≡ 0) (λ b. (a ≢ 0) × (b < M.MODULUS) × (b ≡ (modulo M.MODULUS).inv a)) }
+{
+    (1..M::MODULUS).find(|b| (a * b) % M::MODULUS == 1)
+}
+
 /// The residues of a modulus: sum and product are taken modulo it.
 impl<M: Modular> Arithmetic for M {
     ghost meaning = { λ _. residues M.MODULUS M.STEP };
@@ -93,8 +102,6 @@ impl<M: Modular> Arithmetic for M {
 
     fn inverse(&self, a: u32) -> Result<u32, Refusal> {
         check_code(a, M::MODULUS)?;
-        (1..M::MODULUS)
-            .find(|b| (a * b) % M::MODULUS == 1)
-            .ok_or(Refusal::InverseOfZero)
+        reciprocal::<M>(a).ok_or(Refusal::InverseOfZero)
     }
 }

@@ -1,6 +1,5 @@
 -- What the proof of `field::BinaryField::coordinates` leaves to be shown.
 use Rattle.std.proofs.Common.{◌≡◌, ℕ, ◌+◌, ◌<◌, List, [], ◌∷◌, ◌++◌, length, get_or, take, set, sym, refl, ap, ◌∙◌, ap₂, add-one, arith, length-set, take-suc-set}
-use Rattle.std.proofs.lemmas.List.{take_all}
 use Rattle.algebra.specs.Coordinates.{coordinates, next}
 use Rattle.algebra.proofs.HankelCoordinates.{coordinates_at, coordinates_length, hankel-bit}
 use Rattle.arithmetic.proofs.field.BinaryField.coordinates.Goals as goal
@@ -35,9 +34,3 @@ loop-j-preserved c =
       simp length-set c.loop-j.invariant.0,
       more c.args.self.now.polynomial c.args.self.now.degree c.args.a c.loop-j.j c.coordinate.result c.loop-j.row h c.loop-j.invariant.1 c.coordinate.ensures,
     )
-
-pub returns : goal.returns
-returns c =
-    let e : c.loop-j.j ≡ length c.args.row.now = omega arith in
-    sym (take_all c.loop-j.j c.loop-j.row (omega (arith, c.loop-j.invariant.0))) ∙ c.loop-j.invariant.1
-    ∙ ap (coordinates c.args.self.now.polynomial c.args.self.now.degree c.args.a) e

@@ -1,0 +1,51 @@
+-- What the proof of `residues::reciprocal` leaves to be shown.
+use Rattle.std.proofs.Common.{rules, tests, eq-zero-or-pos, inl, inr, ◌≡◌, ℕ, ◌*◌, ◌%◌, ◌<◌, ◌≤◌, ◌≢◌, Option, Some, None, MatchOption, sym, ap, ◌∙◌, arith}
+use native.Mathlib.Fin
+use Rattle.std.proofs.lemmas.Iterator.{first_from_Range}
+use Rattle.algebra.specs.Operations.{Operations, Ring}
+use Rattle.algebra.specs.Codes.{coded, modulo}
+use Rattle.arithmetic.specs.Meaning.{Lawful, residues}
+use Rattle.arithmetic.proofs.residues.reciprocal.Goals as goal
+
+-- two numbers whose products with a are one are equal
+unique : {K : Type 0} (o : Operations K) → Ring o → (a b c : K) → o.prod a b ≡ o.one → o.prod a c ≡ o.one → b ≡ c
+unique o R a b c p q =
+    sym (R.prod_one b) ∙ ap (o.prod b) (sym q) ∙ sym (R.prod_assoc b a c) ∙ ap (λ x. o.prod x c) (R.prod_comm b a ∙ p)
+    ∙ R.prod_comm o.one c ∙ R.prod_one c
+
+module _ (n g : ℕ) (L : Lawful (residues n g)) (a : ℕ) (low : a < n) where
+  least : 2 ≤ n
+  least = L.least
+
+  abbrev inverse : ℕ
+  inverse = (modulo n).inv a
+
+  inverse_in : inverse < n
+  inverse_in = L.closed.inv_in a low
+
+  inverse_is : a ≢ 0 → (a * inverse) % n ≡ 1
+  inverse_is z = ap (λ x. x.0) (L.field.inverse (a, low) (λ e. z (ap (λ x. x.0) e)))
+
+  inverse-positive : a ≢ 0 → 1 ≤ inverse
+  inverse-positive z = elim (eq-zero-or-pos inverse) [
+    | inl e ↦ absurd (let h : (a * 0) % n ≡ 1 = rw e at (inverse_is z) in omega (arith, least))
+    | inr p ↦ p
+  ]
+
+  -- the first number whose product with a is 1 is the inverse; there is none where a is 0
+  answers : (r : Option ℕ) → MatchOption r ((k : ℕ) → 1 ≤ k → k < n → (a * k) % n ≢ 1) (λ b. (1 ≤ b) × (b < n) × ((a * b) % n ≡ 1) × ((k : ℕ) → 1 ≤ k → k < b → (a * k) % n ≢ 1))
+      → MatchOption r (a ≡ 0) (λ b. (a ≢ 0) × (b < n) × (b ≡ inverse))
+  answers None h = elim (eq-zero-or-pos a) [
+    | inl z ↦ z
+    | inr p ↦ let z : a ≢ 0 = omega arith in absurd (h inverse (inverse-positive z) inverse_in (inverse_is z))
+  ]
+  answers (Some b) h =
+      let z : a ≢ 0 = λ e. let k : (0 * b) % n ≡ 1 = rw e at h.2 in omega (arith, least) in
+      (z, h.1, ap (λ x. x.0) (unique (coded n (modulo n) L.closed) L.ring (a, low) (b, h.1) (inverse, inverse_in) (Fin.val_path h.2) (Fin.val_path (inverse_is z))))
+
+pub returns : goal.returns
+returns g c =
+    let n = g.M.Modular.MODULUS in
+    let a = c.args.a in
+    let h = first_from_Range _ _ _ c.find.result (λ b. (a * b) % n ≡ 1) (λ b. (a * b) % n ≢ 1) c.find.ensures.ran (λ x q k. search (rules, tests)) (λ x q k. search (rules, tests)) in
+    answers n g.M.Modular.STEP g.M.Modular.field a c.requires c.find.result (rw c.MODULUS.ensures at h)
