@@ -110,13 +110,13 @@ module _ (m : Meaning) (L : Lawful m) where
     abbrev new_multiplier : ℕ → ℕ
     new_multiplier = less o s.big_multiplier (quotient o n s) (gap o n s) s.small_multiplier
 
-    pub quotient_is : o.prod (get_or b (i - 1) 0) (o.inv (get_or sm (j - 1) 0)) ≡ quotient o n s
+    quotient_is : o.prod (get_or b (i - 1) 0) (o.inv (get_or sm (j - 1) 0)) ≡ quotient o n s
     quotient_is =
         ap₂ (λ (x y : ℕ). o.prod x (o.inv y))
         (held.big.inside (i - 1) (omega arith) ∙ ap s.big (sub-one i ∙ ap pred ei))
         (held.small.inside (j - 1) (omega arith) ∙ ap s.small (sub-one j ∙ ap pred ej))
 
-    pub gap_is : i - j ≡ gap o n s
+    gap_is : i - j ≡ gap o n s
     gap_is = ap₂ (λ (x y : ℕ). x - y) ei ej
 
     -- the small remainder has no term from z^j on
@@ -128,21 +128,24 @@ module _ (m : Meaning) (L : Lawful m) where
         at (no a) = held.small.beyond t (omega arith)
 
     module _ (b1 bm1 : List ℕ) (lb1 : length b1 ≡ length b) (lm : length bm ≡ length smm) (lm1 : length bm1 ≡ length bm)
-        (cb : Codes m b) (cbm : Codes m bm) (c d : ℕ) (code : c < m.size) (ec : c ≡ quotient o n s) (ed : d ≡ gap o n s) (dj : d + j ≡ i) (dm : d < length smm)
-        (took : Less o b sm j c d b1) (took-multiplier : Less o bm smm (length smm - d) c d bm1)
+        (cb : Codes m b) (cbm : Codes m bm) (c : ℕ) (code : c < m.size) (is : c ≡ o.prod (get_or b (i - 1) 0) (o.inv (get_or sm (j - 1) 0)))
+        (dm : i - j < length smm) (took : Less o b sm j c (i - j) b1) (took-multiplier : Less o bm smm (length smm - (i - j)) c (i - j) bm1)
         (within : Within o n new) (within-multiplier : Within o (length smm) new_multiplier) where
+      ec : c ≡ quotient o n s
+      ec = is ∙ quotient_is
+
       pub new_in : Holds o b1 new
       new_in =
           new_holds b sm b1 j (quotient o n s) (gap o n s) s.big s.small cb (subst (λ (x : ℕ). x < m.size) ec code) held.big held.small
-          (subst (λ (x : ℕ). Less o b sm j (quotient o n s) x b1) ed (subst (λ (x : ℕ). Less o b sm j x d b1) ec took)) lb1 jn
-          (λ t l h. small_past (t - gap o n s) (omega arith)) (λ t l. within t (omega arith))
+          (subst (λ (x : ℕ). Less o b sm j (quotient o n s) x b1) gap_is (subst (λ (x : ℕ). Less o b sm j x (i - j) b1) ec took)) lb1 jn
+          (λ t l h. small_past (t - gap o n s) (omega (arith, gap_is))) (λ t l. within t (omega arith))
 
       pub new_multiplier_in : Holds o bm1 new_multiplier
       new_multiplier_in =
-          new_holds bm smm bm1 (length smm - d) (quotient o n s) (gap o n s) s.big_multiplier s.small_multiplier cbm
+          new_holds bm smm bm1 (length smm - (i - j)) (quotient o n s) (gap o n s) s.big_multiplier s.small_multiplier cbm
           (subst (λ (x : ℕ). x < m.size) ec code) held.big_multiplier held.small_multiplier
-          (subst (λ (x : ℕ). Less o bm smm (length smm - d) (quotient o n s) x bm1) ed (subst (λ (x : ℕ). Less o bm smm (length smm - d) x d bm1) ec took-multiplier))
-          lm1 (omega arith) (λ t l h. absurd (omega arith)) (λ t l. within-multiplier t (omega arith))
+          (subst (λ (x : ℕ). Less o bm smm (length smm - (i - j)) (quotient o n s) x bm1) gap_is (subst (λ (x : ℕ). Less o bm smm (length smm - (i - j)) x (i - j) bm1) ec took-multiplier))
+          lm1 (omega arith) (λ t l h. absurd (omega (arith, gap_is))) (λ t l. within-multiplier t (omega arith))
 
       pub new_terms : terms o (length b1) (polynomial_of b1) ≡ terms o (suc n) new
       new_terms =

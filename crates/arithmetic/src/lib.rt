@@ -13,5 +13,5 @@ pub use field::{BinaryField, Inverted};
 pub use interface::Arithmetic;
 pub use iteration::{all_codes, iterate};
 pub use refusal::Refusal;
-pub use residues::{Bits, Modular, Residues};
+pub use residues::{Bits, Modulo, Modulus, Residues, ThirtySeven, Two};
 pub use values::{evaluate, less, write_powers};

@@ -6,28 +6,30 @@ ghost use Rattle.arithmetic.specs.Lawful.{bits_lawful, residues_37_lawful};
 
 use crate::interface::{Arithmetic, check_code};
 use crate::refusal::Refusal;
+use std::marker::PhantomData;
 
 /// A modulus, from 2 to 65,536, of which the residues are a field, with a step that is not zero.
-pub trait Modular {
-    const MODULUS: u32;
+pub trait Modulus {
+    /// The number of residues.
+    const SIZE: u32;
 
-    ghost MODULUS: { ℕ };
+    ghost SIZE: { ℕ };
 
     const STEP: u32;
 
     ghost STEP: { ℕ };
 
-    ghost field: { Lawful (residues MODULUS STEP) };
+    ghost field: { Lawful (residues SIZE STEP) };
 }
 
-/// The arithmetic of two elements: 0 and 1 modulo 2, with step 1.
+/// The modulus 2, with step 1.
 #[derive(Clone, Copy)]
-pub struct Bits;
+pub struct Two;
 
-impl Modular for Bits {
-    const MODULUS: u32 = 2;
+impl Modulus for Two {
+    const SIZE: u32 = 2;
 
-    ghost MODULUS = { 2 };
+    ghost SIZE = { 2 };
 
     const STEP: u32 = 1;
 
@@ -36,14 +38,14 @@ impl Modular for Bits {
     ghost field = { bits_lawful };
 }
 
-/// The residues modulo 37, with step 2.
+/// The modulus 37, with step 2.
 #[derive(Clone, Copy)]
-pub struct Residues;
+pub struct ThirtySeven;
 
-impl Modular for Residues {
-    const MODULUS: u32 = 37;
+impl Modulus for ThirtySeven {
+    const SIZE: u32 = 37;
 
-    ghost MODULUS = { 37 };
+    ghost SIZE = { 37 };
 
     /// The powers of 2 are all the residues modulo 37 but 0.
     const STEP: u32 = 2;
@@ -53,22 +55,35 @@ impl Modular for Residues {
     ghost field = { residues_37_lawful };
 }
 
+/// The residues of a modulus: sum and product are taken modulo it.
+#[derive(Clone, Copy)]
+pub struct Modulo<M>(PhantomData<M>);
+
+/// The arithmetic of two elements: 0 and 1 modulo 2, with step 1.
+pub type Bits = Modulo<Two>;
+
+pub const Bits: Bits = Modulo(PhantomData);
+
+/// The residues modulo 37, with step 2.
+pub type Residues = Modulo<ThirtySeven>;
+
+pub const Residues: Residues = Modulo(PhantomData);
+
 /// The inverse of a residue; none for 0.
-fn reciprocal<M: Modular>(a: u32) -> Option<u32>
-    requires { a < M.MODULUS }
-    ensures { MatchOption result (a ≡ 0) (λ b. (a ≢ 0) × (b < M.MODULUS) × (b ≡ (modulo M.MODULUS).inv a)) }
+fn reciprocal<M: Modulus>(a: u32) -> Option<u32>
+    requires { a < M.SIZE }
+    ensures { MatchOption result (a ≡ 0) (λ b. (a ≢ 0) × (b < M.SIZE) × (b ≡ (modulo M.SIZE).inv a)) }
 {
-    (1..M::MODULUS).find(|b| (a * b) % M::MODULUS == 1)
+    (1..M::SIZE).find(|b| (a * b) % M::SIZE == 1)
 }
 
-/// The residues of a modulus: sum and product are taken modulo it.
-impl<M: Modular> Arithmetic for M {
-    ghost meaning = { λ _. residues M.MODULUS M.STEP };
+impl<M: Modulus> Arithmetic for Modulo<M> {
+    ghost meaning = { λ _. residues M.SIZE M.STEP };
 
     ghost lawful = { λ _. M.field };
 
     fn size(&self) -> u32 {
-        M::MODULUS
+        M::SIZE
     }
 
     fn zero(&self) -> u32 {
@@ -84,24 +99,24 @@ impl<M: Modular> Arithmetic for M {
     }
 
     fn sum(&self, a: u32, b: u32) -> Result<u32, Refusal> {
-        check_code(a, M::MODULUS)?;
-        check_code(b, M::MODULUS)?;
-        Ok((a + b) % M::MODULUS)
+        check_code(a, M::SIZE)?;
+        check_code(b, M::SIZE)?;
+        Ok((a + b) % M::SIZE)
     }
 
     fn negative(&self, a: u32) -> Result<u32, Refusal> {
-        check_code(a, M::MODULUS)?;
-        Ok((M::MODULUS - a) % M::MODULUS)
+        check_code(a, M::SIZE)?;
+        Ok((M::SIZE - a) % M::SIZE)
     }
 
     fn product(&self, a: u32, b: u32) -> Result<u32, Refusal> {
-        check_code(a, M::MODULUS)?;
-        check_code(b, M::MODULUS)?;
-        Ok((a * b) % M::MODULUS)
+        check_code(a, M::SIZE)?;
+        check_code(b, M::SIZE)?;
+        Ok((a * b) % M::SIZE)
     }
 
     fn inverse(&self, a: u32) -> Result<u32, Refusal> {
-        check_code(a, M::MODULUS)?;
+        check_code(a, M::SIZE)?;
         reciprocal::<M>(a).ok_or(Refusal::InverseOfZero)
     }
 }

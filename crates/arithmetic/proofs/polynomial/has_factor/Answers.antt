@@ -1,5 +1,5 @@
 -- What the proof of `polynomial::has_factor` leaves to be shown.
-use Rattle.std.proofs.Common.{◌≡◌, ℕ, ◌+◌, ◌*◌, ◌%◌, ◌^◌, MatchBool, sym, ◌∙◌, subst, arith, below_more}
+use Rattle.std.proofs.Common.{◌≡◌, ℕ, ◌+◌, ◌*◌, ◌%◌, ◌^◌, ◌<◌, MatchBool, sym, ap, ◌∙◌, subst, arith, below_more}
 use Rattle.std.proofs.lemmas.Nat.{one_shl}
 use Rattle.algebra.specs.Binary.{Degree, Divides, Factor, NoFactor, remainder}
 use Rattle.algebra.proofs.BinaryDegrees.{LeavesBy}
@@ -15,13 +15,15 @@ divides-leaves f x d h = factor_left f x d (remainder f x) h (remainder_leaves f
 leaves-divides : (f x d : ℕ) → Degree x d → remainder f x ≡ 0 → Divides x f
 leaves-divides f x d h e = left_zero f x (subst (LeavesBy f x) e (remainder_leaves f x d h))
 
+-- the pattern p of degree d, as the code makes it
+pattern : (f d p r : ℕ) → d < 32 → r ≡ remainder f ((1 * 2 ^ d) % 2 ^ 32 + p) → r ≡ remainder f (2 ^ d + p)
+pattern f d p r h e = e ∙ ap (λ (x : ℕ). remainder f (x + p)) (one_shl d 32 h)
+
 pub loop-pattern-preserved : goal.loop-pattern-preserved
 loop-pattern-preserved c =
     let d = c.search.degree in
     let p = c.loop-pattern.pattern in
-    let e : (1 * 2 ^ d) % 2 ^ 32 ≡ 2 ^ d = one_shl d 32 (omega arith) in
-    let is : c.remainder.result ≡ remainder c.args.f (2 ^ d + p)
-    = subst (λ (x : ℕ). c.remainder.result ≡ remainder c.args.f (x + p)) e c.remainder.ensures in (
+    let is = pattern c.args.f d p c.remainder.result (omega arith) c.remainder.ensures in (
       c.loop-pattern.invariant.0,
       below_more _ _ c.loop-pattern.invariant.1
           (λ h. c.if-remainder-eq0.false (is ∙ divides-leaves c.args.f (2 ^ d + p) d (pattern_degree d p (omega arith)) h)),
@@ -47,9 +49,7 @@ pub returns-then-remainder-eq0 : goal.returns-then-remainder-eq0
 returns-then-remainder-eq0 c =
     let d = c.search.degree in
     let p = c.loop-pattern.pattern in
-    let e : (1 * 2 ^ d) % 2 ^ 32 ≡ 2 ^ d = one_shl d 32 (omega arith) in
-    let is : c.remainder.result ≡ remainder c.args.f (2 ^ d + p)
-    = subst (λ (x : ℕ). c.remainder.result ≡ remainder c.args.f (x + p)) e c.remainder.ensures in (
+    let is = pattern c.args.f d p c.remainder.result (omega arith) c.remainder.ensures in (
       2 ^ d + p,
       record {
         at = d;

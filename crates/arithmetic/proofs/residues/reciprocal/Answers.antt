@@ -45,7 +45,7 @@ module _ (n g : ℕ) (L : Lawful (residues n g)) (a : ℕ) (low : a < n) where
 
 pub returns : goal.returns
 returns g c =
-    let n = g.M.Modular.MODULUS in
+    let n = g.M.Modulus.SIZE in
     let a = c.args.a in
     let h = first_from_Range _ _ _ c.find.result (λ b. (a * b) % n ≡ 1) (λ b. (a * b) % n ≢ 1) c.find.ensures.ran (λ x q k. search (rules, tests)) (λ x q k. search (rules, tests)) in
-    answers n g.M.Modular.STEP g.M.Modular.field a c.requires c.find.result (rw c.MODULUS.ensures at h)
+    answers n g.M.Modulus.STEP g.M.Modulus.field a c.requires c.find.result (rw c.SIZE.ensures at h)
