@@ -40,6 +40,7 @@ fn subtract<A: Arithmetic>(
     requires small_codes { Codes (A.Arithmetic.meaning arithmetic.now) small.now }
     ensures { (t : ℕ) → slice_index big.new t ≡ less_at (A.Arithmetic.meaning arithmetic.now).codes big.old small.now n c d t }
 {
+    // A zip with `small` got no proof: behind one, nothing is known of the elements that are written.
     for (i, a) in big[d..d + n].iter_mut().enumerate() {
         *a = less(arithmetic, *a, c, small[i]).unwrap();
     }
@@ -241,6 +242,7 @@ pub fn iterate<A: Arithmetic>(
     ensures answers { MatchResult result (λ k. Codes (A.Arithmetic.meaning arithmetic.now) small.old × Fitting start stop big.old big_multiplier.old small.old small_multiplier.old × Iterated (A.Arithmetic.meaning arithmetic.now) start stop (polynomial_of small.old) k big.new big_multiplier.new small.new small_multiplier.new) (NotIterated (A.Arithmetic.meaning arithmetic.now) start stop big.old big_multiplier.old small.old small_multiplier.old) }
     ensures unchanged { OnErr result ((big.new ≡ big.old) × (big_multiplier.new ≡ big_multiplier.old) × (small.new ≡ small.old) × (small_multiplier.new ≡ small_multiplier.old)) }
 {
+    // The project's rule: the iteration is one function over slices of codes, so the rows are handed in one by one.
     if !all_codes(arithmetic, small) {
         return Err(Refusal::NotACode);
     }

@@ -15,10 +15,12 @@ pub trait Modulus {
 
     ghost SIZE: { ℕ };
 
+    /// The step.
     const STEP: u32;
 
     ghost STEP: { ℕ };
 
+    /// They are a field, and the step is not zero.
     ghost field: { Lawful (residues SIZE STEP) };
 }
 
@@ -57,7 +59,7 @@ impl Modulus for ThirtySeven {
 
 /// The residues of a modulus: sum and product are taken modulo it.
 #[derive(Clone, Copy)]
-pub struct Modulo<M>(PhantomData<M>);
+pub struct Modulo<M>(pub PhantomData<M>);
 
 /// The arithmetic of two elements: 0 and 1 modulo 2, with step 1.
 pub type Bits = Modulo<Two>;
