@@ -4,7 +4,7 @@ ghost use Rattle.algebra.specs.Generators.{generator as generator_of, register};
 ghost use Rattle.algebra.specs.Polynomials.{delay};
 ghost use Rattle.arithmetic.specs.Meaning.{Codes};
 ghost use Rattle.label.specs.Labels.{Label, LabelOf, Spelled, character as character_of, digit, door as door_of};
-ghost use Rattle.label.specs.Schemes.{IsScheme, NotPrinted, NotTyped};
+ghost use Rattle.label.specs.Schemes.{NotPrinted, NotTyped};
 
 use crate::known::{less, negative, product, sum};
 use crate::refusal::Refusal;
@@ -168,7 +168,7 @@ impl<A: Arithmetic> Scheme<A> {
     ///
     /// Refused by 8 where there is no such door, then by 13 where the row has not the label's length; then the row is as it was.
     pub fn print_codes(&self, door: u32, row: &mut [u32]) -> Result<(), Refusal>
-        ensures printed { MatchResult result (λ _. (door < self.now.doors) × (length row.old ≡ self.now.n) × (IsScheme (A.Arithmetic.meaning self.now.arithmetic) self.now.n self.now.k self.now.doors → LabelOf (A.Arithmetic.meaning self.now.arithmetic) self.now.n self.now.k door row.new)) (λ e. (row.new ≡ row.old) × NotPrinted self.now.doors self.now.n door (length row.old) e) }
+        ensures printed { MatchResult result (λ _. (door < self.now.doors) × (length row.old ≡ self.now.n) × LabelOf (A.Arithmetic.meaning self.now.arithmetic) self.now.n self.now.k door row.new) (λ e. (row.new ≡ row.old) × NotPrinted self.now.doors self.now.n door (length row.old) e) }
     {
         if !self.has_door(door) {
             return Err(Refusal::NoSuchDoor);
@@ -183,7 +183,7 @@ impl<A: Arithmetic> Scheme<A> {
     /// Prints a door's label, as text, into a row, by way of a row of codes as long.
     fn print_by(&self, door: u32, codes: &mut [u32], row: &mut [u8])
         requires { (length codes.old ≡ self.now.n) × (length row.old ≡ self.now.n) }
-        ensures { door < self.now.doors → IsScheme (A.Arithmetic.meaning self.now.arithmetic) self.now.n self.now.k self.now.doors → (label : List ℕ) × LabelOf (A.Arithmetic.meaning self.now.arithmetic) self.now.n self.now.k door label × Spelled label row.new }
+        ensures { door < self.now.doors → (label : List ℕ) × LabelOf (A.Arithmetic.meaning self.now.arithmetic) self.now.n self.now.k door label × Spelled label row.new }
     {
         write_label(&self.arithmetic, door, self.k, codes);
         spell(codes, row);
@@ -194,7 +194,7 @@ impl<A: Arithmetic> Scheme<A> {
     /// Refused by 8 where there is no such door, then by 11 where the arithmetic has more than 64 elements, then by 13 where
     /// the row has not the label's length; then the row is as it was.
     pub fn print_text(&self, door: u32, row: &mut [u8]) -> Result<(), Refusal>
-        ensures printed { MatchResult result (λ _. (door < self.now.doors) × ((A.Arithmetic.meaning self.now.arithmetic).size ≤ 64) × (length row.old ≡ self.now.n) × (IsScheme (A.Arithmetic.meaning self.now.arithmetic) self.now.n self.now.k self.now.doors → (label : List ℕ) × LabelOf (A.Arithmetic.meaning self.now.arithmetic) self.now.n self.now.k door label × Spelled label row.new)) (λ e. (row.new ≡ row.old) × NotTyped (A.Arithmetic.meaning self.now.arithmetic) self.now.doors self.now.n door (length row.old) e) }
+        ensures printed { MatchResult result (λ _. (door < self.now.doors) × ((A.Arithmetic.meaning self.now.arithmetic).size ≤ 64) × (length row.old ≡ self.now.n) × ((label : List ℕ) × LabelOf (A.Arithmetic.meaning self.now.arithmetic) self.now.n self.now.k door label × Spelled label row.new)) (λ e. (row.new ≡ row.old) × NotTyped (A.Arithmetic.meaning self.now.arithmetic) self.now.doors self.now.n door (length row.old) e) }
     {
         if !self.has_door(door) {
             return Err(Refusal::NoSuchDoor);

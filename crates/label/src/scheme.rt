@@ -1,7 +1,7 @@
 // Schemes of labels.
 ghost use Rattle.std.specs.Prelude.{◌≡◌, ◌-◌, ◌^◌, ◌<◌, ◌≤◌, MatchBool, MatchOption, MatchResult, OnOk};
 ghost use Rattle.label.specs.Labels.{Apart, EachDoor};
-ghost use Rattle.label.specs.Schemes.{Counts, IsScheme, NoScheme};
+ghost use Rattle.label.specs.Schemes.{IsScheme, NoScheme};
 
 use crate::powers::powers_differ;
 use crate::refusal::Refusal;
@@ -10,14 +10,15 @@ use arithmetic::Arithmetic;
 /// The most doors that a scheme may have.
 const MOST_DOORS: u64 = 1 << 32;
 
-/// A scheme of labels: an arithmetic with a length and a number of door characters. A value comes only from laying out.
+/// A scheme of labels: an arithmetic with a length and a number of door characters. A value comes only from laying out, and
+/// carries what laying out proved of it.
 #[derive(Drop)]
 pub struct Scheme<A: Arithmetic> {
     pub(crate) arithmetic: A,
     pub(crate) n: usize,
     pub(crate) k: usize,
     pub(crate) doors: u64,
-    ghost counts: { Counts n k },
+    ghost is_scheme: { IsScheme (A.Arithmetic.meaning arithmetic) n k doors },
 }
 
 /// Why no scheme was laid out, with the arithmetic that was handed in.

@@ -14,6 +14,6 @@ returns g c =
       printed = (
         omega arith,
         len,
-        (λ scheme. label_written m L s.n s.k scheme.different c.args.door (length c.args.row.now) c.write_label.new.row len c.write_label.ensures (omega (arith, low, scheme.number_of_doors))),
+        label_written m L s.n s.k s.is_scheme.different c.args.door (length c.args.row.now) c.write_label.new.row len c.write_label.ensures (omega (arith, low, s.is_scheme.number_of_doors)),
       );
     }
