@@ -8,7 +8,7 @@ use Rattle.labels.proofs.row.Characters.new.Goals as goal
 pub returns : goal.returns
 returns g c =
     let printed = c.in_ok-print_text.ensures.printed in
-    let label = printed.3 c.requires in
+    let label = printed.3 in
     let long : length c.print_text.new.row ≡ c.args.scheme.now.n = search rules in
     let same = sym (take_at c.print_text.new.row _ c.args.scheme.now.n long) in
     let spelled = subst (λ t. Spelled label.0 t) same label.2 in

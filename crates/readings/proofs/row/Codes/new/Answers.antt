@@ -11,5 +11,5 @@ returns g c =
     let long : length c.print_codes.new.row ≡ n = search rules in
     let same = sym (take_at c.print_codes.new.row _ n long) in (
       printed.0,
-      (search rules, subst (λ row. LabelOf (g.A.Arithmetic.meaning c.args.scheme.now.arithmetic) n c.args.scheme.now.k c.args.door row) same (printed.2 c.requires)),
+      (search rules, subst (λ row. LabelOf (g.A.Arithmetic.meaning c.args.scheme.now.arithmetic) n c.args.scheme.now.k c.args.door row) same (printed.2)),
     )
