@@ -1,21 +1,17 @@
 -- Each door of a scheme has just one label.
-use Rattle.std.proofs.Common.{◌≡◌, ℕ, ◌-◌, ◌^◌, ◌<◌, ◌≤◌, List, sym, ◌∙◌, subst}
+use Rattle.std.proofs.Common.{◌≡◌, ℕ, ◌-◌, ◌<◌, ◌≤◌, List, sym, ◌∙◌}
 use Rattle.arithmetic.specs.Meaning.{Meaning, Lawful}
 use Rattle.label.specs.Labels.{Different, EachDoor, Label, LabelOf, door}
 use Rattle.label.proofs.Apart.{same_door}
 use Rattle.label.proofs.Printed.{each_door_exists}
 
 module _ (m : Meaning) (L : Lawful m) (n k : ℕ) (different : Different m n) where
-  label_of : (d : ℕ) (row : List ℕ) → Label m n (n - k) row → door m.size k row ≡ d → LabelOf m n k d row
+  pub label_of : (d : ℕ) (row : List ℕ) → Label m n (n - k) row → door m.size k row ≡ d → LabelOf m n k d row
   label_of d row label its_door = record {
     label = label;
     its_door = its_door;
     only = λ other l e. same_door m L n k different other row l label (e ∙ sym its_door);
   }
-
-  -- the same of a row that was written where it is n long
-  pub label_written : (d len : ℕ) (row : List ℕ) → len ≡ n → (d < m.size ^ k → Label m len (len - k) row × (door m.size k row ≡ d)) → d < m.size ^ k → LabelOf m n k d row
-  label_written d len row e written low = let w = written low in label_of d row (subst (λ (x : ℕ). Label m x (x - k) row) e w.0) w.1
 
   pub each_door : 1 ≤ k → k < n → EachDoor m n k
   each_door some less d low =

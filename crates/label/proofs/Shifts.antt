@@ -17,13 +17,14 @@ shifted o row factor x t = o.sum (delay o 1 (λ i. get_or row i 0) t) (o.neg (o.
 pub power_next : (o : Operations ℕ) (x g p i : ℕ) → x ≡ o.prod g p → p ≡ pow o g i → x ≡ pow o g (i + 1)
 power_next o x g p i e h = e ∙ ap (o.prod g) h ∙ ap (pow o g) (sym (add-one i))
 
-pub generator_next : (o : Operations ℕ) (g j n power t v : ℕ) (row : List ℕ) → t < n → ((i : ℕ) → i < n → get_or row i 0 ≡ generator o g j i) → power ≡ pow o g (suc j)
-    → v ≡ shifted o row power (get_or row t 0) t → v ≡ generator o g (suc j) t
+pub generator_next : (o : Operations ℕ) (g j n power t v : ℕ) (row : List ℕ) → t < n → ((i : ℕ) → i < n → get_or row i 0 ≡ generator o g j i) → power ≡ pow o g (j + 1)
+    → v ≡ shifted o row power (get_or row t 0) t → v ≡ generator o g (j + 1) t
 unfolding generator
 generator_next o g j n power t v row l h e is =
     is
     ∙ ap₂ (λ (x y : ℕ). o.sum x (o.neg (o.prod power y))) (delay_same o (λ i. get_or row i 0) (generator o g j) n t l h) (h t l)
-    ∙ ap (λ (x : ℕ). o.sum (delay o 1 (generator o g j) t) (o.neg (o.prod x (generator o g j t)))) e
+    ∙ ap (λ (x : ℕ). o.sum (delay o 1 (generator o g j) t) (o.neg (o.prod x (generator o g j t)))) (e ∙ ap (pow o g) (add-one j))
+    ∙ ap (λ (i : ℕ). generator o g i t) (sym (add-one j))
 
 pub register_next : (o : Operations ℕ) (g r p t v factor x : ℕ) (d : ℕ → ℕ) (row : List ℕ) → t < r → ((i : ℕ) → i < r → get_or row i 0 ≡ register o g r d p i)
     → factor ≡ o.sum (get_or row (r - 1) 0) (d p) → x ≡ generator o g r t → v ≡ shifted o row factor x t → v ≡ register o g r d (p + 1) t

@@ -1,7 +1,6 @@
 // Labels over any arithmetic.
 #![tactic(auto)]
 
-mod known;
 mod powers;
 mod printing;
 mod refusal;

@@ -1,6 +1,7 @@
 // Schemes of labels.
-ghost use Rattle.std.specs.Prelude.{◌≡◌, ◌-◌, ◌^◌, ◌<◌, ◌≤◌, MatchBool, MatchOption, MatchResult, OnOk};
+ghost use Rattle.std.specs.Prelude.{◌≡◌, ◌-◌, ◌^◌, ◌<◌, ◌≤◌, MatchOption, MatchResult, OnOk, ◌≢◌};
 ghost use Rattle.label.specs.Labels.{Apart, EachDoor};
+ghost use Rattle.label.specs.Refusals.{Refused};
 ghost use Rattle.label.specs.Schemes.{IsScheme, NoScheme};
 
 use crate::powers::powers_differ;
@@ -29,18 +30,27 @@ pub struct NotLaidOut<A: Arithmetic> {
 }
 
 /// q to the power k, where that is at most 2^32.
-fn number_of_doors(q: u32, k: usize) -> Option<u64>
-    requires { (1 ≤ q) × (q ≤ 65536) }
+fn number_of_doors(q: u32, k: u32) -> Option<u64>
     ensures { MatchOption result (2 ^ 32 < q ^ k) (λ d. (d ≡ q ^ k) × (d ≤ 2 ^ 32)) }
 {
-    let mut doors: u64 = 1;
-    for _ in 0..k {
-        doors *= q as u64;
-        if doors > MOST_DOORS {
-            return None;
-        }
+    (q as u64)
+        .checked_pow(k)
+        .filter(|doors| *doors <= MOST_DOORS)
+}
+
+/// The number of doors of the scheme of an arithmetic with labels of `n` characters, `k` of them for the door.
+///
+/// Refused as laying out this scheme is.
+fn doors_of<A: Arithmetic>(arithmetic: &A, n: u32, k: u32) -> Result<u64, Refusal>
+    ensures { MatchResult result (IsScheme (A.Arithmetic.meaning arithmetic.now) n k) (NoScheme (A.Arithmetic.meaning arithmetic.now) n k) }
+{
+    if n < 2 || n > 64 || k < 1 || k >= n {
+        return Err(Refusal::WrongCounts);
     }
-    Some(doors)
+    if !powers_differ(arithmetic, n as usize) {
+        return Err(Refusal::EqualPowers);
+    }
+    number_of_doors(arithmetic.size(), k).ok_or(Refusal::TooManyDoors)
 }
 
 impl<A: Arithmetic> Scheme<A> {
@@ -52,30 +62,18 @@ impl<A: Arithmetic> Scheme<A> {
         ensures laid { MatchResult result (λ s. (s.arithmetic ≡ arithmetic) × (s.n ≡ n) × (s.k ≡ k) × IsScheme (A.Arithmetic.meaning arithmetic) n k s.doors) (λ e. (e.arithmetic ≡ arithmetic) × NoScheme (A.Arithmetic.meaning arithmetic) n k e.refusal) }
         ensures labels { OnOk result (Apart (A.Arithmetic.meaning arithmetic) n (n - k) × EachDoor (A.Arithmetic.meaning arithmetic) n k) }
     {
-        if n < 2 || n > 64 || k < 1 || k >= n {
-            return Err(NotLaidOut {
+        match doors_of(&arithmetic, n, k) {
+            Ok(doors) => Ok(Scheme {
                 arithmetic,
-                refusal: Refusal::WrongCounts,
-            });
+                n: n as usize,
+                k: k as usize,
+                doors,
+            }),
+            Err(refusal) => Err(NotLaidOut {
+                arithmetic,
+                refusal,
+            }),
         }
-        if !powers_differ(&arithmetic, n as usize) {
-            return Err(NotLaidOut {
-                arithmetic,
-                refusal: Refusal::EqualPowers,
-            });
-        }
-        let Some(doors) = number_of_doors(arithmetic.size(), k as usize) else {
-            return Err(NotLaidOut {
-                arithmetic,
-                refusal: Refusal::TooManyDoors,
-            });
-        };
-        Ok(Scheme {
-            arithmetic,
-            n: n as usize,
-            k: k as usize,
-            doors,
-        })
     }
 
     /// The scheme's arithmetic.
@@ -113,10 +111,25 @@ impl<A: Arithmetic> Scheme<A> {
         self.doors
     }
 
-    /// Whether there is such a door.
-    pub(crate) fn has_door(&self, door: u32) -> bool
-        ensures { MatchBool result (door < self.now.doors) (self.now.doors ≤ door) }
+    /// That there is such a door. Refused by 8 where there is none.
+    pub(crate) fn check_door(&self, door: u32) -> Result<(), Refusal>
+        ensures { MatchResult result (λ _. door < self.now.doors) (λ e. (self.now.doors ≤ door) × Refused e 8) }
     {
-        (door as u64) < self.doors
+        if (door as u64) < self.doors {
+            Ok(())
+        } else {
+            Err(Refusal::NoSuchDoor)
+        }
+    }
+
+    /// That a row of `length` places has the label's length. Refused by 13 where it has not.
+    pub(crate) fn check_length(&self, length: usize) -> Result<(), Refusal>
+        ensures { MatchResult result (λ _. length ≡ self.now.n) (λ e. (length ≢ self.now.n) × Refused e 13) }
+    {
+        if length == self.n {
+            Ok(())
+        } else {
+            Err(Refusal::WrongLength)
+        }
     }
 }

@@ -1,37 +1,23 @@
 // Testing whether a row is a label.
 ghost use Rattle.std.specs.Prelude.{◌≡◌, ℕ, ◌-◌, ◌<◌, ◌≤◌, length, MatchBool, ◌≢◌};
-ghost use Rattle.algebra.specs.Polynomials.{pow};
 ghost use Rattle.arithmetic.specs.Meaning.{Codes};
 ghost use Rattle.label.specs.Labels.{Label, power_sum};
 
-use crate::known::product;
 use crate::scheme::Scheme;
-use arithmetic::{Arithmetic, all_codes, evaluate};
-
-/// The power sum j of a row of codes, where `x` is the power j of the step.
-pub(crate) fn power_sum_at<A: Arithmetic>(arithmetic: &A, row: &[u32], x: u32) -> u32
-    requires codes { Codes (A.Arithmetic.meaning arithmetic.now) row.now }
-    requires code { x < (A.Arithmetic.meaning arithmetic.now).size }
-    ensures { (j : ℕ) → x ≡ pow (A.Arithmetic.meaning arithmetic.now).codes (A.Arithmetic.meaning arithmetic.now).step j → result ≡ power_sum (A.Arithmetic.meaning arithmetic.now) (length row.now) row.now j }
-{
-    evaluate(arithmetic, row, x).unwrap()
-}
+use arithmetic::{Arithmetic, all_codes, evaluate, write_powers};
 
 /// Whether the power sums 1 to `r` of a row of codes are zero.
 fn sums_vanish<A: Arithmetic>(arithmetic: &A, row: &[u32], r: usize) -> bool
     requires codes { Codes (A.Arithmetic.meaning arithmetic.now) row.now }
+    requires few { r < 64 }
     ensures { MatchBool result ((j : ℕ) → 1 ≤ j → j ≤ r → power_sum (A.Arithmetic.meaning arithmetic.now) (length row.now) row.now j ≡ (A.Arithmetic.meaning arithmetic.now).codes.zero) ((j : ℕ) × (1 ≤ j) × (j ≤ r) × (power_sum (A.Arithmetic.meaning arithmetic.now) (length row.now) row.now j ≢ (A.Arithmetic.meaning arithmetic.now).codes.zero)) }
 {
     let zero = arithmetic.zero();
-    let step = arithmetic.step();
-    let mut power = arithmetic.one();
-    for _ in 0..r {
-        power = product(arithmetic, step, power);
-        if power_sum_at(arithmetic, row, power) != zero {
-            return false;
-        }
-    }
-    true
+    // An array, since nothing is allocated; in an ArrayVec the zeros to be written over would have to be pushed one by one.
+    let mut powers = [0u32; 64];
+    let powers = &mut powers[0..=r];
+    write_powers(arithmetic, powers);
+    powers[1..].iter().all(|power| evaluate(arithmetic, row, *power).is_ok_and(|sum| sum == zero))
 }
 
 impl<A: Arithmetic> Scheme<A> {

@@ -4,6 +4,3 @@ use Rattle.label.proofs.powers.all_different.Given as goal
 
 abbrev pub invariant-loop-j : goal.invariant-loop-j
 invariant-loop-j l = (i j : ℕ) → i < j → j < l.j → get_or l.row i 0 ≡ get_or l.row j 0 → ⊥
-
-abbrev pub invariant-loop-i : goal.invariant-loop-i
-invariant-loop-i l = (i : ℕ) → i < l.i → get_or l.row i 0 ≡ get_or l.row l.j 0 → ⊥

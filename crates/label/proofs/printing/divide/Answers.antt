@@ -6,7 +6,7 @@ use Rattle.label.proofs.printing.divide.Goals as goal
 
 pub loop-d-init : goal.loop-d-init
 unfolding register
-loop-d-init g c = ((λ t h. search rules), (λ t h. search rules))
+loop-d-init g c = record { value = λ t h. search rules; codes = λ t h. search rules }
 
 pub loop-d-preserved : goal.loop-d-preserved
 loop-d-preserved g c =
@@ -15,10 +15,10 @@ loop-d-preserved g c =
     let e : r ≡ length c.args.row.now = c.fill.auto.self in
     let l = c.loop-d in
     let n = c.shift_less in
-    let d : ℕ → ℕ = λ p. get_or c.args.digits.now p 0 in (
-      (λ t h. register_next m.codes m.step r l.d-index t (get_or n.new.row t 0) c.sum-factor.result (get_or c.args.generator.now t 0) d l.row h
-          (λ i k. l.invariant.0 i k)
-          (c.sum-factor.ensures.value ∙ ap (λ (k : ℕ). m.codes.sum (get_or l.row (k - 1) 0) (d l.d-index)) (sym e))
-          (c.requires.generates t (omega arith) ∙ ap (λ (k : ℕ). generator m.codes m.step k t) (sym e)) (n.ensures.value t (omega arith))),
-      n.ensures.codes,
-    )
+    let d : ℕ → ℕ = λ p. get_or c.args.digits.now p 0 in
+    let f : c.unwrap-factor.result ≡ m.codes.sum (get_or l.row (r - 1) 0) (d l.d-index) = search rules in
+    record {
+      value = λ t h. register_next m.codes m.step r l.d-index t (get_or n.new.row t 0) c.unwrap-factor.result (get_or c.args.generator.now t 0) d l.row h
+          l.invariant.value f (c.requires.generates t (omega arith) ∙ ap (λ (k : ℕ). generator m.codes m.step k t) (sym e)) (n.ensures.value t (omega arith));
+      codes = n.ensures.codes;
+    }

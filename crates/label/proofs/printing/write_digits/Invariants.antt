@@ -1,9 +1,9 @@
 -- What the loops of `printing::write_digits` keep, and what falls.
-use Rattle.std.proofs.Common.{◌≡◌, ℕ, ◌-◌, ◌/◌, ◌^◌, ◌<◌, ◌≤◌, length, get_or}
-use Rattle.label.specs.Labels.{digit}
+use Rattle.std.proofs.Common.{◌≡◌, ℕ, ◌/◌, ◌%◌, ◌^◌, ◌<◌, get_or}
 use Rattle.label.proofs.printing.write_digits.Given as goal
 
-abbrev pub invariant-loop-p : goal.invariant-loop-p
-invariant-loop-p l =
-    (l.rest ≡ l.door / l.q ^ (length l.row - l.p))
-    × ((p : ℕ) → l.p ≤ p → p < length l.row → get_or l.row p 0 ≡ digit l.q (length l.row) l.door p)
+abbrev pub invariant-loop-x : goal.invariant-loop-x
+invariant-loop-x l = record {
+  written : (p : ℕ) → p < l.x-index → get_or l.row p 0 ≡ (l.door / l.q ^ p) % l.q;
+  rest : l.rest ≡ l.door / l.q ^ l.x-index;
+}
