@@ -1,3 +1,4 @@
 pub mod Numerals
 pub mod Parts
 pub mod Spacing
+pub mod Refusals

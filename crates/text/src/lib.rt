@@ -1,10 +1,11 @@
-// Reading bytes: lines, parts between separators, and decimal numbers; and writing numbers in a row.
+// Reading bytes: lines, parts between separators, and decimal numbers; and writing numbers in a row, and refusals.
 #![tactic(auto)]
 
 ghost use Rattle.std.specs.Prelude.{◌≡◌, ℕ, ◌<◌, length, Some, MatchOption};
 ghost use Rattle.std.specs.Option.{SomeIff};
 ghost use Rattle.text.specs.Numerals.{Numeral, Two, value};
 ghost use Rattle.text.specs.Parts.{NextLine, Parts, Without};
+ghost use Rattle.text.specs.Refusals.{refused_text};
 ghost use Rattle.text.specs.Spacing.{spaced};
 ghost use Rattle.std.specs.Iterator.{at_most};
 
@@ -68,6 +69,20 @@ impl fmt::Display for Spaced<'_> {
             write!(f, " {n}")?;
         }
         Ok(())
+    }
+}
+
+/// A refusal's number and place.
+#[derive(Clone, Copy)]
+pub struct Refused(pub u32, pub u32);
+
+impl fmt::Display for Refused {
+    // What `{}` writes.
+    ghost output = { λ r. Some (refused_text r.0 r.1) };
+
+    fn fmt<W: fmt::Write>(&self, f: &mut fmt::Formatter<W>) -> fmt::Result {
+        let Refused(number, place) = *self;
+        write!(f, "refused {number} {place}")
     }
 }
 
