@@ -37,3 +37,11 @@ pub record Two (bs : List ℕ) (m n : ℕ) : Type 0 where
   pub whole : bs ≡ left ++ 32 ∷ right
   pub left_one : One left m
   pub right_one : One right n
+
+-- the bytes are a numeral of l, a space (the byte 32), a numeral of m, a space, and a numeral of n
+pub record Three (bytes : List ℕ) (l m n : ℕ) : Type 0 where
+  pub left : List ℕ
+  pub right : List ℕ
+  pub whole : bytes ≡ left ++ 32 ∷ right
+  pub left_one : One left l
+  pub right_two : Two right m n

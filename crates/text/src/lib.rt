@@ -3,7 +3,7 @@
 
 ghost use Rattle.std.specs.Prelude.{◌≡◌, ℕ, ◌<◌, length, Some, MatchOption};
 ghost use Rattle.std.specs.Option.{SomeIff};
-ghost use Rattle.text.specs.Numerals.{Numeral, Two, value};
+ghost use Rattle.text.specs.Numerals.{Numeral, Three, Two, value};
 ghost use Rattle.text.specs.Parts.{NextLine, Parts, Without};
 ghost use Rattle.text.specs.Refusals.{refused_text};
 ghost use Rattle.text.specs.Spacing.{spaced};
@@ -12,48 +12,47 @@ ghost use Rattle.std.specs.Iterator.{at_most};
 use std::fmt;
 
 /// The number that the bytes write: one to ten decimal digits, and below 2^32. Zeros may lead.
+#[tactic(auto, using(crate::proofs::Values::continued_more))]
 pub fn number(bytes: &[u8]) -> Option<u32>
     ensures { SomeIff result (Numeral bytes.now) (value bytes.now) }
 {
-    if bytes.len() == 0 || bytes.len() > 10 {
+    if bytes.is_empty() || bytes.len() > 10 {
         return None;
     }
-    let mut n: u64 = 0;
+    let mut n = 0u32;
     for b in bytes {
-        if *b < b'0' || *b > b'9' {
-            return None;
-        }
-        n = n * 10 + (*b - b'0') as u64;
+        let digit = char::from(*b).to_digit(10)?;
+        n = n.checked_mul(10)?.checked_add(digit)?;
     }
-    if n < 4294967296 { Some(n as u32) } else { None }
+    Some(n)
 }
 
 /// The bytes before the first separator and those behind it; `None` where there is no separator.
 pub fn split_once(bytes: &[u8], separator: u8) -> Option<(&[u8], &[u8])>
     ensures { MatchOption result (Without separator bytes.now) (λ p. Parts separator bytes.now p.0.now p.1.now) }
 {
-    for i in 0..bytes.len() {
-        if bytes[i] == separator {
-            return Some((&bytes[0..i], &bytes[i + 1..]));
-        }
-    }
-    None
+    let at = bytes.iter().position(|b| *b == separator)?;
+    Some((&bytes[..at], &bytes[at + 1..]))
 }
 
 /// The two numbers that the bytes write, with one space between.
 pub fn two_numbers(bytes: &[u8]) -> Option<(u32, u32)>
     ensures { MatchOption result ((m n : ℕ) → Two bytes.now m n → ⊥) (λ p. Two bytes.now p.0 p.1) }
 {
-    let Some((left, right)) = split_once(bytes, b' ') else {
-        return None;
-    };
-    let Some(m) = number(left) else {
-        return None;
-    };
-    let Some(n) = number(right) else {
-        return None;
-    };
+    let (left, right) = split_once(bytes, b' ')?;
+    let m = number(left)?;
+    let n = number(right)?;
     Some((m, n))
+}
+
+/// The three numbers that the bytes write, with one space between.
+pub fn three_numbers(bytes: &[u8]) -> Option<(u32, u32, u32)>
+    ensures { MatchOption result ((l m n : ℕ) → Three bytes.now l m n → ⊥) (λ p. Three bytes.now p.0 p.1 p.2) }
+{
+    let (left, right) = split_once(bytes, b' ')?;
+    let l = number(left)?;
+    let (m, n) = two_numbers(right)?;
+    Some((l, m, n))
 }
 
 /// Numbers that `{}` writes with a space before each.
@@ -115,11 +114,7 @@ impl<'a> Iterator for Lines<'a> {
         if self.rest.is_empty() {
             return None;
         }
-        let Some((line, rest)) = split_once(self.rest, b'\n') else {
-            let line = self.rest;
-            self.rest = &line[line.len()..];
-            return Some(line);
-        };
+        let (line, rest) = split_once(self.rest, b'\n').unwrap_or((self.rest, &[]));
         self.rest = rest;
         Some(line)
     }

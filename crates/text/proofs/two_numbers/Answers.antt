@@ -1,15 +1,17 @@
 -- What the proof of `two_numbers` leaves to be shown.
 use Rattle.std.proofs.Common.{subst}
-use Rattle.text.specs.Parts.{Without}
-use Rattle.text.proofs.Cuts.{occurs}
-use Rattle.text.proofs.Sides.{sides}
+use Rattle.text.specs.Numerals.{Numeral}
+use Rattle.text.proofs.Sides.{one_piece, sides}
 use Rattle.text.proofs.two_numbers.Goals as goal
 
-pub returns-in_default : goal.returns-in_default
-returns-in_default c = λ m n t. occurs 32 t.left t.right (subst (Without 32) t.whole c.in_default.ensures)
+pub returns-in_err-left : goal.returns-in_err-left
+returns-in_err-left c = rw c.from_residual.ensures (λ m n t.
+    one_piece _ _ _ c.in_err-left.ensures t.whole)
 
-pub returns-in_default-number : goal.returns-in_default-number
-returns-in_default-number c = λ m n t. c.in_default-number.ensures (sides _ _ _ m n c.in-Some.ensures t).0
+pub returns-in_err-m : goal.returns-in_err-m
+returns-in_err-m c = rw c.from_residual-in_err-m.ensures (λ m n t.
+    c.in_err-m.ensures (subst Numeral (sides _ _ _ _ _ c.in_ok-left.ensures t.whole t.left_one.numeral).0 t.left_one.numeral))
 
-pub returns-in_default-number-2 : goal.returns-in_default-number-2
-returns-in_default-number-2 c = λ m n t. c.in_default-number-2.ensures (sides _ _ _ m n c.in-Some.ensures t).1
+pub returns-in_err-n : goal.returns-in_err-n
+returns-in_err-n c = rw c.from_residual-in_err-n.ensures (λ m n t.
+    c.in_err-n.ensures (subst Numeral (sides _ _ _ _ _ c.in_ok-left.ensures t.whole t.left_one.numeral).1 t.right_one.numeral))
