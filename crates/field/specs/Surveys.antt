@@ -1,11 +1,7 @@
 -- What inverting every nonzero code of a field gives.
-use Rattle.std.specs.Prelude.{◌≡◌, ℕ, suc, ◌+◌, ◌-◌, ◌^◌, ◌<◌, max, List, [], ◌∷◌, length, slice_index}
+use Rattle.std.specs.Prelude.{◌≡◌, ℕ, suc, ◌-◌, ◌^◌, ◌<◌, max, List, [], ◌∷◌, length, slice_index, sum}
 use Rattle.arithmetic.specs.Inverting.{Inverts}
 use Rattle.field.specs.declared.survey.Survey.{Survey}
-
-abbrev pub sum : List ℕ → ℕ
-sum [] = 0
-sum (k ∷ ks) = k + sum ks
 
 abbrev pub largest : List ℕ → ℕ
 largest [] = 0

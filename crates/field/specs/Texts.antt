@@ -1,9 +1,12 @@
 -- What is printed for an answer.
-use Rattle.std.specs.Prelude.{ℕ, List, ◌++◌, take, codes, decimal}
+use Rattle.std.specs.Prelude.{ℕ, List, ◌++◌, codes, decimal}
 use Rattle.arithmetic.specs.Refusals.{number, place}
+use Rattle.text.specs.Refusals.{refused_text}
 use Rattle.text.specs.Spacing.{spaced}
 use Rattle.field.specs.declared.answer.Answer.{Answer}
-use Rattle.field.specs.declared.answer.Answer.TheVariants.{Refused, Opened, Wrong, Described, NoQuery}
+use Rattle.field.specs.declared.answer.Answer.TheVariants.{Opened, Described}
+use Rattle.field.specs.declared.answer.Unanswered.{Unanswered}
+use Rattle.field.specs.declared.answer.Unanswered.TheVariants.{Refused, Wrong, NoQuery}
 use Rattle.field.specs.declared.element.Element.{Element}
 use Rattle.field.specs.declared.survey.Survey.{Survey}
 
@@ -14,12 +17,16 @@ survey_text s =
 
 abbrev pub element_text : Element → List ℕ
 element_text e =
-    codes "triangular" ++ (spaced (take e.degree e.row)
+    codes "triangular" ++ (spaced e.row.items
     ++ (codes " inverse " ++ (decimal e.inverse ++ (codes " iterations " ++ decimal e.iterations))))
 
+-- for an answer
 abbrev pub answer_text : Answer → List ℕ
-answer_text (Refused e) = codes "refused " ++ (decimal (number e) ++ (codes " " ++ decimal (place e)))
 answer_text (Opened s) = survey_text s
-answer_text (Wrong a) = codes "wrong " ++ decimal a
 answer_text (Described e) = element_text e
-answer_text NoQuery = codes "no query"
+
+-- where there is no answer
+abbrev pub unanswered_text : Unanswered → List ℕ
+unanswered_text (Refused e) = refused_text (number e) (place e)
+unanswered_text (Wrong w) = codes "wrong " ++ decimal w.0
+unanswered_text NoQuery = codes "no query"

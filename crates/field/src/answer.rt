@@ -1,67 +1,79 @@
 // What is answered to a query.
-ghost use Rattle.std.specs.Prelude.{Some};
+ghost use Rattle.std.specs.Prelude.{◌≡◌, Some};
 ghost use Rattle.field.specs.Answers.{Answers, OfElement, OfField};
-ghost use Rattle.field.specs.Texts.{answer_text};
+ghost use Rattle.field.specs.Texts.{answer_text, unanswered_text};
+ghost use Rattle.field.specs.declared.answer.Unanswered.TheVariants as unanswered;
 
 use crate::element::Element;
 use crate::query::Query;
-use crate::survey::Survey;
+use crate::survey::{Survey, Wrong};
 use arithmetic::{BinaryField, Refusal};
 use std::fmt;
+use text::Refused;
 
 /// What is answered to a query.
-#[derive(Clone, Copy)]
+#[derive(Drop)]
 pub enum Answer {
-    /// A call was refused.
-    Refused(Refusal),
     /// The field opens.
     Opened(Survey),
-    /// The field opens, and the product of this code with its inverse is not one.
-    Wrong(u32),
     /// The element has an inverse.
     Described(Element),
+}
+
+/// Why a line has no answer.
+#[derive(Clone, Copy)]
+pub enum Unanswered {
+    /// A call was refused.
+    Refused(Refusal),
+    /// The field opens, and the product of a code with its inverse is not one.
+    Wrong(Wrong),
     /// The line asks nothing.
     NoQuery,
 }
 
+impl From<Refusal> for Unanswered {
+    // The refusal as it is.
+    ghost from_gives = { λ e u. u ≡ unanswered.Refused e };
+
+    fn from(refusal: Refusal) -> Unanswered {
+        Unanswered::Refused(refusal)
+    }
+}
+
+impl From<Wrong> for Unanswered {
+    // The code as it is.
+    ghost from_gives = { λ w u. u ≡ unanswered.Wrong w };
+
+    fn from(wrong: Wrong) -> Unanswered {
+        Unanswered::Wrong(wrong)
+    }
+}
+
 impl Answer {
     /// The answer to a query.
-    pub fn new(query: Query) -> Answer
+    pub fn new(query: Option<Query>) -> Result<Answer, Unanswered>
         ensures { Answers query result }
     {
-        match query {
+        match query.ok_or(Unanswered::NoQuery)? {
             Query::Field(f) => Answer::of_field(f),
             Query::Element(f, a) => Answer::of_element(f, a),
-            Query::Unknown => Answer::NoQuery,
         }
     }
 
     /// The answer to the polynomial of a field.
-    fn of_field(f: u32) -> Answer
+    fn of_field(f: u32) -> Result<Answer, Unanswered>
         ensures { OfField f result }
     {
-        let field = match BinaryField::open(f) {
-            Ok(field) => field,
-            Err(refusal) => return Answer::Refused(refusal),
-        };
-        match Survey::new(&field) {
-            Ok(survey) => Answer::Opened(survey),
-            Err(wrong) => Answer::Wrong(wrong.0),
-        }
+        let field = BinaryField::open(f)?;
+        Ok(Answer::Opened(Survey::new(&field)?))
     }
 
     /// The answer to the polynomial of a field and a code in it.
-    fn of_element(f: u32, a: u32) -> Answer
+    fn of_element(f: u32, a: u32) -> Result<Answer, Unanswered>
         ensures { OfElement f a result }
     {
-        let field = match BinaryField::open(f) {
-            Ok(field) => field,
-            Err(refusal) => return Answer::Refused(refusal),
-        };
-        match Element::new(&field, a) {
-            Ok(element) => Answer::Described(element),
-            Err(refusal) => Answer::Refused(refusal),
-        }
+        let field = BinaryField::open(f)?;
+        Ok(Answer::Described(Element::new(&field, a)?))
     }
 }
 
@@ -70,16 +82,26 @@ impl fmt::Display for Answer {
     ghost output = { λ a. Some (answer_text a) };
 
     fn fmt<W: fmt::Write>(&self, f: &mut fmt::Formatter<W>) -> fmt::Result {
-        match *self {
-            Answer::Refused(refusal) => {
-                let number = refusal.number();
-                let place = refusal.place();
-                write!(f, "refused {number} {place}")
-            }
+        match self {
             Answer::Opened(survey) => write!(f, "{survey}"),
-            Answer::Wrong(code) => write!(f, "wrong {code}"),
             Answer::Described(element) => write!(f, "{element}"),
-            Answer::NoQuery => write!(f, "no query"),
+        }
+    }
+}
+
+impl fmt::Display for Unanswered {
+    // What `{}` writes.
+    ghost output = { λ u. Some (unanswered_text u) };
+
+    fn fmt<W: fmt::Write>(&self, f: &mut fmt::Formatter<W>) -> fmt::Result {
+        match *self {
+            Unanswered::Refused(refusal) => write!(
+                f,
+                "{}",
+                Refused(refusal.number(), refusal.place())
+            ),
+            Unanswered::Wrong(Wrong(code)) => write!(f, "wrong {code}"),
+            Unanswered::NoQuery => write!(f, "no query"),
         }
     }
 }

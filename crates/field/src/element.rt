@@ -7,27 +7,27 @@ ghost use Rattle.field.specs.Elements.{Describes, Triangular};
 ghost use Rattle.field.specs.Texts.{element_text};
 
 use arithmetic::{BinaryField, Refusal};
+use arrayvec::ArrayVec;
 use std::fmt;
 use text::Spaced;
 
 /// An element of a field, by its triangular coordinates and its inverse.
-#[derive(Clone, Copy)]
+#[derive(Drop)]
 pub struct Element {
-    /// The triangular coordinates, in the first places, as many as the degree.
-    pub row: [u32; 16],
-    /// The degree of the field's polynomial.
-    pub degree: usize,
+    /// The triangular coordinates, as many as the degree of the field's polynomial.
+    pub row: ArrayVec<u32, 16>,
     pub inverse: u32,
     /// How many iterations the inverse took.
     pub iterations: u32,
 }
 
-/// The triangular coordinates of a code, in the first places of the row. Refused by 3 where the number is no code.
-fn triangular(field: &BinaryField, a: u32) -> Result<[u32; 16], Refusal>
+/// The triangular coordinates of a code, as many as the degree. Refused by 3 where the number is no code.
+fn triangular(field: &BinaryField, a: u32) -> Result<ArrayVec<u32, 16>, Refusal>
     ensures { MatchResult result (Triangular field.now.polynomial field.now.degree a) (λ e. (2 ^ field.now.degree ≤ a) × Refused e 3) }
 {
-    let mut row = [0; 16];
-    field.triangular(a, &mut row[0..field.degree() as usize])?;
+    let mut row = ArrayVec::from([0; 16]);
+    row.truncate(field.degree() as usize);
+    field.triangular(a, row.as_mut_slice())?;
     Ok(row)
 }
 
@@ -40,7 +40,6 @@ impl Element {
         let inverted = field.invert(a)?;
         Ok(Element {
             row,
-            degree: field.degree() as usize,
             inverse: inverted.inverse,
             iterations: inverted.iterations,
         })
@@ -52,7 +51,7 @@ impl fmt::Display for Element {
     ghost output = { λ e. Some (element_text e) };
 
     fn fmt<W: fmt::Write>(&self, f: &mut fmt::Formatter<W>) -> fmt::Result {
-        let row = Spaced(&self.row[0..self.degree.min(self.row.len())]);
+        let row = Spaced(self.row.as_slice());
         let inverse = self.inverse;
         let iterations = self.iterations;
         write!(

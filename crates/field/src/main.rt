@@ -17,9 +17,10 @@ fn main(rt: HostRuntime) -> io::Result<()> {
     let mut input = Vec::new(rt.alloc());
     rt.stdin().read_to_end(&mut input)?;
     let mut output = Vec::new(rt.alloc());
-    for line in Lines::new(input.as_slice()) {
-        if !line.is_empty() {
-            writeln!(output, "{}", Answer::new(Query::parse(line)))?;
+    for line in Lines::new(input.as_slice()).filter(|line| !line.is_empty()) {
+        match Answer::new(Query::parse(line)) {
+            Ok(answer) => writeln!(output, "{answer}")?,
+            Err(unanswered) => writeln!(output, "{unanswered}")?,
         }
     }
     rt.stdout().write_all(output.as_slice())

@@ -1,12 +1,7 @@
 -- What the proof of `answer::Answer::of_field` leaves to be shown.
-use Rattle.std.proofs.Common.{subst}
 use Rattle.field.specs.Surveys.{Surveyed}
-use Rattle.arithmetic.proofs.Openings.{opens}
+use Rattle.field.proofs.Opened.{opened}
 use Rattle.field.proofs.answer.Answer.of_field.Goals as goal
 
-pub returns-in-Ok-new : goal.returns-in-Ok-new
-returns-in-Ok-new c = (
-  c.in-Ok.field.degree,
-  opens c.in-Ok.field c.args.f c.in-Ok.ensures,
-  subst (λ F. Surveyed F c.in-Ok.field.degree c.in-Ok-new.survey) c.in-Ok.ensures c.in-Ok-new.ensures,
-)
+pub returns : goal.returns
+returns c = opened (λ F m. Surveyed F m c.in_ok-new.field-0) c.in_ok-field.field _ c.in_ok-field.ensures c.in_ok-new.ensures

@@ -1,6 +1,6 @@
 -- What the loops of `survey::Survey::new` keep, and what falls.
-use Rattle.std.proofs.Common.{◌≡◌, ℕ, ◌+◌, ◌*◌, ◌≤◌, List, length}
-use Rattle.field.specs.Surveys.{Counts, largest, sum}
+use Rattle.std.proofs.Common.{◌≡◌, ℕ, ◌+◌, ◌*◌, ◌≤◌, List, length, sum}
+use Rattle.field.specs.Surveys.{Counts, largest}
 use Rattle.field.proofs.survey.Survey.new.Given as goal
 
 abbrev pub invariant-loop-a : goal.invariant-loop-a
