@@ -1,14 +1,8 @@
--- A list cut at one of its places, and the one way to cut it at the first separator.
-use Rattle.std.proofs.Common.{◌≡◌, ℕ, suc, ◌+◌, ◌-◌, ◌<◌, List, [], ◌∷◌, ◌++◌, length, get_or, take, drop, sym, refl, ap, ◌∙◌, arith, length-append, take-append-drop, rules}
-use Rattle.std.proofs.lemmas.List.{drop_more, take_rest, get_or_at}
+-- The one way to cut a list at the first separator.
+use Rattle.std.proofs.Common.{◌≡◌, ℕ, suc, ◌<◌, List, [], ◌∷◌, ◌++◌, length, sym, refl, ◌∙◌, arith, length-append, rules}
+use Rattle.std.proofs.lemmas.List.{get_or_at}
 use Rattle.text.specs.Numerals.{Digits}
 use Rattle.text.specs.Parts.{Without, Parts}
-
--- a list is what stands before the place i, the byte there, and what stands behind it
-pub cut_at : (s : List ℕ) (i b : ℕ) → i < length s → get_or s i 0 ≡ b → s ≡ take (i - 0) s ++ b ∷ take (length s - (i + 1)) (drop (i + 1) s)
-cut_at s i b h e =
-    let z : i - 0 ≡ i = omega arith in
-    rw (z, take_rest s (i + 1)) (sym (take-append-drop i s) ∙ ap (λ l. take i s ++ l) (drop_more s i 0 h ∙ ap (λ x. x ∷ drop (i + 1) s) e))
 
 -- a list that has b somewhere is not without it
 pub occurs : (b : ℕ) (x y : List ℕ) → Without b (x ++ b ∷ y) → ⊥
