@@ -1,5 +1,6 @@
 -- The characters of the codes below 64 are different, so that a character has one code.
-use Rattle.std.proofs.Common.{◌≡◌, ℕ, zero, suc, ◌-◌, ◌<◌, ◌≤◌, cond, eqb, ltb, Some, None, sym, refl, ap, ◌∙◌, arith, eq-eqb, ne_eqb}
+use Rattle.std.proofs.Common.{◌≡◌, ℕ, zero, suc, ◌-◌, ◌<◌, ◌≤◌, cond, eqb, ltb, Some, None, sym, refl, ap, ◌∙◌, arith, le-ltb, lt-ltb, eq-eqb, ne_eqb}
+use Rattle.std.specs.Bool.{then_some}
 use native.Mathlib.Decide.{dec_lt}
 use Rattle.std.proofs.lemmas.Bool.Decides.{nat_tests}
 use Rattle.label.specs.Labels.{character}
@@ -36,3 +37,13 @@ code-some (suc d) c b most l e = at (dec_lt c d) (λ below. code-some d c b (ome
 
 pub code_of_character : (q c : ℕ) → q ≤ 64 → c < q → code_with q (character c) ≡ Some (Code c)
 code_of_character q c most l = code-some q c (character c) most l refl
+
+-- the code of a character, where it is below q
+pub code-found : (q c b : ℕ) → q ≤ 64 → c < 64 → character c ≡ b → then_some (ltb c q) (Code c) ≡ code_with q b
+code-found q c b most l e = at (dec_lt c q)
+  where
+    at : Dec (c < q) → then_some (ltb c q) (Code c) ≡ code_with q b
+    at (yes below) = ap (λ t. then_some t (Code c)) (lt-ltb c q below) ∙ sym (code-some q c b most below e)
+    at (no above) =
+        ap (λ t. then_some t (Code c)) (le-ltb c q (omega arith))
+        ∙ sym (code-none q b (λ i h f. let same : i ≡ c = character_once i c (omega arith) l (f ∙ sym e) in omega arith))

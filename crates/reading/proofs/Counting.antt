@@ -1,16 +1,16 @@
--- Counts, from one number to the next.
-use Rattle.std.proofs.Common.{◌≡◌, ℕ, zero, suc, ◌+◌, ◌≤◌, Bool, true, false, cond, ap, ◌∙◌, add-one, arith}
+-- Counts of the elements of a list that pass a test.
+use Rattle.std.proofs.Common.{◌≡◌, ℕ, zero, suc, ◌+◌, ◌≤◌, Bool, cond, List, length, get_or, take, count_by, sym, refl, ap, ◌∙◌, add-one, arith}
+use Rattle.std.proofs.Math.Seq.{take-length}
+use Rattle.std.proofs.lemmas.List.Sums.{sum_by_more}
 use Rattle.algebra.specs.Counts.{count}
 
-one_most : (b : Bool) → cond b 1 0 ≤ 1
-one_most true = omega arith
-one_most false = omega arith
+module _ {X : Type 0} (test : X → Bool) (xs : List X) (d : X) where
+  below : (n : ℕ) → n ≤ length xs → count_by test (take n xs) ≡ count n (λ i. test (get_or xs i d))
+  below zero l = refl
+  below (suc n) l =
+      ap (λ (k : ℕ). count_by test (take k xs)) (sym (add-one n)) ∙ sum_by_more (λ x. cond (test x) 1 0) xs n d (omega arith)
+      ∙ ap (λ (c : ℕ). c + cond (test (get_or xs n d)) 1 0) (below n (omega arith))
 
--- a count is at most how many numbers are tested
-pub count_most : (n : ℕ) (test : ℕ → Bool) → count n test ≤ n
-count_most zero test = omega arith
-count_most (suc n) test = omega (arith, count_most n test, one_most (test n))
-
--- one number more
-pub count_more : (n : ℕ) (test : ℕ → Bool) (b : Bool) → test n ≡ b → count (n + 1) test ≡ count n test + cond b 1 0
-count_more n test b e = ap (λ (k : ℕ). count k test) (add-one n) ∙ ap (λ t. count n test + cond t 1 0) e
+  -- by their places
+  pub count_by_places : count_by test xs ≡ count (length xs) (λ i. test (get_or xs i d))
+  count_by_places = ap (count_by test) (sym (take-length xs)) ∙ below (length xs) (omega arith)

@@ -99,14 +99,6 @@ clean m n r cells marks sums row same e codes long ps zeros none =
 pub each_cell : (q n : ℕ) (s : Shown) (cells marks : List ℕ) → length cells ≡ n → Opened q s cells marks → (p : ℕ) → p < n → s.cell q p ≡ None → ⊥
 each_cell q n s cells marks e w p l none = subst (λ c. Taken c (at cells p) (at marks p)) none (w p (omega (arith, e)))
 
-door_below : (m : Meaning) → Lawful m → (k : ℕ) (row : List ℕ) → Codes m row → door m.size k row < m.size ^ k
-door_below m L zero row c = omega (arith, pow-zero m.size)
-door_below m L (suc k) row c =
-    let q = m.size in
-    let d = door q k row in
-    let step : suc d * q ≤ q ^ k * q = mul-le-mul_right q (door_below m L k row c) in
-    omega (arith, code_in m L row c k, step, suc-mul d q, pow-suc q k)
-
 -- What is known of a reading whose cells were taken.
 pub record Known (m : Meaning) (n : ℕ) (s : Shown) (worksheet row : ℕ) (cells marks : List ℕ) : Type 0 where
   pub ready : Ready m.size n s worksheet row
@@ -116,7 +108,7 @@ pub record Known (m : Meaning) (n : ℕ) (s : Shown) (worksheet row : ℕ) (cell
 -- it is refused by 16 where no label is near its cells
 pub not_read :
     (m : Meaning) (n k doors : ℕ) (s : Shown) (worksheet row : ℕ) (cells marks : List ℕ) → Known m n s worksheet row cells marks
-    → (Different m n → (label : List ℕ) → Near m (n - k) cells marks label → ⊥) → NotRead m n k doors s worksheet row NoLabel
+    → ((label : List ℕ) → Near m (n - k) cells marks label → ⊥) → NotRead m n k doors s worksheet row NoLabel
 not_read m n k doors s worksheet row cells marks w none = record {
   before = record {
     no_text = λ t. absurd (w.ready.readable t);
@@ -125,7 +117,7 @@ not_read m n k doors s worksheet row cells marks w none = record {
     other_count = λ t l e d. absurd (d w.ready.long);
   };
   no_cell = λ ready p g first. absurd (each_cell m.size n s cells marks w.length_cells w.opened p g first.0);
-  none = λ formed. ((refl, refl), λ is label lab reach. none is.different label (near_of_reach m.size n s cells marks w.length_cells w.opened m (n - k) label lab reach));
+  none = λ formed. ((refl, refl), λ label lab reach. none label (near_of_reach m.size n s cells marks w.length_cells w.opened m (n - k) label lab reach));
 }
 
 pub well_formed :
@@ -137,19 +129,18 @@ well_formed m n s worksheet row cells marks w = record {
 
 -- it is answered by the label that is near its cells
 pub answered :
-    (m : Meaning) (L : Lawful m) (n k doors : ℕ) (s : Shown) (worksheet len : ℕ) (cells marks label row : List ℕ) (f : Found)
+    (m : Meaning) (L : Lawful m) (n k : ℕ) (different : Different m n) (s : Shown) (worksheet len : ℕ) (cells marks label row : List ℕ) (f : Found)
     → Known m n s worksheet len cells marks → Near m (n - k) cells marks label → f.misread ≡ count n (wrong cells marks label) → row ≡ label
-    → f.door ≡ door m.size k row % 2 ^ 32 → f.smudges ≡ count n (marked marks)
-    → IsScheme m n k doors → Reads m n k s row f
-answered m L n k doors s worksheet len cells marks label row f w near' v same d c is =
+    → f.door ≡ door m.size k row → f.smudges ≡ count n (marked marks) → Reads m n k s row f
+answered m L n k different s worksheet len cells marks label row f w near' v same d c =
     let near : Near m (n - k) cells marks row = subst (Near m (n - k) cells marks) (sym same) near' in
     let lab : Label m n (n - k) row = subst (λ j. Label m j (n - k) row) w.length_cells near.label in
     let reach = reach_of_near m.size n s cells marks w.length_cells w.opened m (n - k) row near in
     record {
       label = lab;
       reach = reach;
-      only = λ other lab' reach'. one_label m L n (n - k) s is.different (each_cell m.size n s cells marks w.length_cells w.opened) other row lab' reach' lab reach;
-      its_door = d ∙ mod-eq_of_lt (omega (arith, door_below m L k row lab.codes, is.number_of_doors, is.few));
+      only = λ other lab' reach'. one_label m L n (n - k) s different (each_cell m.size n s cells marks w.length_cells w.opened) other row lab' reach' lab reach;
+      its_door = d;
       its_misread = v ∙ ap (λ l. count n (wrong cells marks l)) (sym same) ∙ sym (misread_are m.size n s cells marks w.length_cells w.opened row);
       its_smudges = c ∙ sym (smudges_are m.size n s cells marks w.length_cells w.opened);
     }

@@ -4,7 +4,6 @@ use borrow.Author.Tests.{both_ways}
 use Rattle.std.proofs.lemmas.Bool.Decides.{nat_tests}
 use Rattle.arithmetic.specs.Meaning.{Meaning, Lawful, Codes}
 use Rattle.label.specs.Labels.{LabelOf, Spelled, character, door}
-use Rattle.label.specs.Schemes.{IsScheme}
 use Rattle.reading.specs.declared.cell.Cell.{Cell}
 use Rattle.reading.specs.declared.cell.Cell.TheVariants.{Code, Smudge}
 use Rattle.reading.specs.declared.reader.Found.{Found}
@@ -36,17 +35,17 @@ not_wrong q (suc n) s label l h =
 found-clean : (f : Found) (d : ℕ) → f.door ≡ d → f.misread ≡ 0 → f.smudges ≡ 0 → f ≡ clean d
 found-clean f d a b c i = record { door = a i; misread = b i; smudges = c i }
 
-module _ (m : Meaning) (n k doors : ℕ) (s : Shown) (worksheet len : ℕ) (row : List ℕ) (is : IsScheme m n k doors) (d : ℕ) (label : List ℕ) (of : LabelOf m n k d label)
+module _ (m : Meaning) (n k doors : ℕ) (s : Shown) (worksheet len : ℕ) (row : List ℕ) (d : ℕ) (label : List ℕ) (of : LabelOf m n k d label)
     (formed : WellFormed m.size n s worksheet len) (shows : Shows m.size s label) where
   reach : InReach m.size n (n - k) s label
   reach = omega (arith, no_smudge m.size n s label (omega (arith, of.label.long)) shows, not_wrong m.size n s label (omega (arith, of.label.long)) shows)
 
   back : (r : Result Found Refusal)
-      → MatchResult r (λ f. WellFormed m.size n s worksheet len × (IsScheme m n k doors → Reads m n k s row f)) (NotRead m n k doors s worksheet len)
+      → MatchResult r (λ f. WellFormed m.size n s worksheet len × Reads m n k s row f) (NotRead m n k doors s worksheet len)
       → (r ≡ Ok (clean d)) × (row ≡ label)
-  back (Err e) h = absurd ((h.none formed).1 is label of.label reach)
+  back (Err e) h = absurd ((h.none formed).1 label of.label reach)
   back (Ok f) h =
-      let reads = h.1 is in
+      let reads = h.1 in
       let same : label ≡ row = reads.only label of.label reach in (
         ap Ok (found-clean f d (reads.its_door ∙ ap (door m.size k) (sym same) ∙ of.its_door)
             (reads.its_misread ∙ ap (misread m.size n s) (sym same) ∙ not_wrong m.size n s label (omega (arith, of.label.long)) shows)
@@ -94,13 +93,13 @@ shown_cells m n s label e h p l none = go (sym (h p (omega (arith, e))) ∙ none
 
 pub read_back :
     (m : Meaning) (L : Lawful m) (n k doors : ℕ) (s : Shown) (worksheet len : ℕ) (r : Result Found Refusal) (row : List ℕ)
-    → MatchResult r (λ f. WellFormed m.size n s worksheet len × (IsScheme m n k doors → Reads m n k s row f)) (NotRead m n k doors s worksheet len)
-    → IsScheme m n k doors → ReadBack m n k s worksheet len r row
-read_back m L n k doors s worksheet len r row h is = record {
+    → MatchResult r (λ f. WellFormed m.size n s worksheet len × Reads m n k s row f) (NotRead m n k doors s worksheet len)
+    → ReadBack m n k s worksheet len r row
+read_back m L n k doors s worksheet len r row h = record {
   codes = λ d label of e enough fits.
       let shows = subst (λ s. Shows m.size s label) (sym e) (scan_shows m L label of.label.codes) in
       let plain : s.text ≡ false = ap (λ s. s.text) e in
-      back m n k doors s worksheet len row is d label of
+      back m n k doors s worksheet len row d label of
       (record {
         ready = record {
           readable = λ t. both_ways s.text plain t.0;
@@ -112,7 +111,7 @@ read_back m L n k doors s worksheet len r row h is = record {
       }) shows r h;
   text = λ d label characters of few spelled e enough fits.
       let shows = subst (λ s. Shows m.size s label) (sym e) (text_shows m L few label characters of.label.codes spelled) in
-      back m n k doors s worksheet len row is d label of
+      back m n k doors s worksheet len row d label of
       (record {
         ready = record {
           readable = λ t. absurd (omega (arith, few, t.1));

@@ -2,7 +2,6 @@
 use Rattle.std.specs.Prelude.{◌≡◌, ℕ, ◌-◌, ◌<◌, ◌≤◌, true, List, None, Ok, Result, ◌≢◌}
 use Rattle.arithmetic.specs.Meaning.{Meaning}
 use Rattle.label.specs.Labels.{Label, LabelOf, Spelled, door}
-use Rattle.label.specs.Schemes.{IsScheme}
 use Rattle.reading.specs.declared.refusal.Refusal.{Refusal}
 use Rattle.reading.specs.declared.reader.Found.{Found}
 use Rattle.reading.specs.Readings.{Shown, scanned, typed}
@@ -54,7 +53,7 @@ pub record NotReady (q n : ℕ) (s : Shown) (worksheet row : ℕ) (e : Refusal) 
 pub record NotRead (m : Meaning) (n k doors : ℕ) (s : Shown) (worksheet row : ℕ) (e : Refusal) : Type 0 where
   pub before : NotReady m.size n s worksheet row e
   pub no_cell : Ready m.size n s worksheet row → (p : ℕ) → p < n → FirstWithout m.size s p → Refused e 15 p
-  pub none : WellFormed m.size n s worksheet row → Refused e 16 0 × (IsScheme m n k doors → NoneInReach m n (n - k) s)
+  pub none : WellFormed m.size n s worksheet row → Refused e 16 0 × NoneInReach m n (n - k) s
 
 -- the door d, read clean
 abbrev pub clean : ℕ → Found

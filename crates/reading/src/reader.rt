@@ -1,5 +1,5 @@
 // Reading a label.
-ghost use Rattle.std.specs.Prelude.{◌≡◌, ℕ, ◌+◌, ◌-◌, ◌*◌, ◌%◌, ◌^◌, ◌<◌, ◌≤◌, List, length, MatchBool, MatchOption, MatchResult, OnErr};
+ghost use Rattle.std.specs.Prelude.{◌≡◌, ℕ, ◌+◌, ◌-◌, ◌*◌, ◌%◌, ◌^◌, ◌<◌, ◌≤◌, List, length, MatchBool, MatchOption, MatchResult, OnErr, ◌≢◌};
 ghost use Rattle.algebra.specs.Counts.{count as count_of};
 ghost use Rattle.arithmetic.specs.Meaning.{Codes};
 ghost use Rattle.label.specs.Labels.{Different, door as door_of};
@@ -7,12 +7,10 @@ ghost use Rattle.label.specs.Schemes.{IsScheme};
 ghost use Rattle.reading.specs.Answers.{NoText, NotRead, NotReady, ReadBack, Reads, Ready, WellFormed};
 ghost use Rattle.reading.specs.Working.{Near, Points, PowerSums, Zero, at, marked, wrong};
 
-use crate::cells::{count_wrong, write_cells};
-use crate::filling::fill;
-use crate::points::{write_points, write_power_sums};
+use crate::cells::Cells;
+use crate::points::Places;
 use crate::reading::Reading;
 use crate::refusal::Refusal;
-use crate::suspects::find_suspects;
 use crate::worksheet::Guard;
 use arithmetic::Arithmetic;
 use label::Scheme;
@@ -39,115 +37,93 @@ fn has_no_text<R: Reading>(reading: &R, q: u32) -> bool
 }
 
 /// Whether a reading can be taken: refused by 11, 12, 13 and 14, in this order.
-fn take<R: Reading>(
+fn take<A: Arithmetic, R: Reading>(
+    scheme: &Scheme<A>,
     reading: &R,
-    q: u32,
-    n: usize,
     worksheet: usize,
     row: usize,
 ) -> Result<(), Refusal>
-    ensures { MatchResult result (λ _. Ready q n (R.Reading.shown reading.now) worksheet row) (λ e. NotReady q n (R.Reading.shown reading.now) worksheet row e × (Ready q n (R.Reading.shown reading.now) worksheet row → ⊥)) }
+    ensures { MatchResult result (λ _. Ready (A.Arithmetic.meaning scheme.now.arithmetic).size scheme.now.n (R.Reading.shown reading.now) worksheet row) (λ e. NotReady (A.Arithmetic.meaning scheme.now.arithmetic).size scheme.now.n (R.Reading.shown reading.now) worksheet row e × (Ready (A.Arithmetic.meaning scheme.now.arithmetic).size scheme.now.n (R.Reading.shown reading.now) worksheet row → ⊥)) }
 {
-    if has_no_text(reading, q) {
+    if has_no_text(reading, scheme.arithmetic().size()) {
         return Err(Refusal::NoText);
     }
     if worksheet < WORKSHEET {
         return Err(Refusal::ShortWorksheet);
     }
-    if row != n {
+    if row != scheme.length() {
         return Err(Refusal::WrongLength);
     }
-    if reading.pieces() != n {
+    if reading.pieces() != scheme.length() {
         return Err(Refusal::WrongCount);
     }
     Ok(())
 }
 
-/// The number in base `q` that the first `k` places of a row are, modulo 2^32.
-fn door_number(q: u32, k: usize, row: &[u32]) -> u32
-    requires { k ≤ length row.now }
-    ensures { result ≡ door_of q k row.now % 2 ^ 32 }
+/// The door of a label: the number that its first places are.
+fn door_number<A: Arithmetic>(scheme: &Scheme<A>, label: &[u32]) -> u32
+    requires long { length label.now ≡ scheme.now.n }
+    requires codes { Codes (A.Arithmetic.meaning scheme.now.arithmetic) label.now }
+    ensures { result ≡ door_of (A.Arithmetic.meaning scheme.now.arithmetic).size scheme.now.k label.now }
 {
-    let mut door: u32 = 0;
-    for p in 0..k {
-        door = door.wrapping_mul(q).wrapping_add(row[p]);
-    }
-    door
+    let q = scheme.arithmetic().size();
+    label[..scheme.door_characters()].iter().fold(
+        0u32,
+        |door, code| door.wrapping_mul(q).wrapping_add(*code),
+    )
 }
 
 /// Whether every number of a row is `zero`.
 fn all_equal(row: &[u32], zero: u32) -> bool
-    ensures { MatchBool result ((t : ℕ) → t < length row.now → at row.now t ≡ zero) (Unit {0}) }
+    ensures { MatchBool result ((t : ℕ) → t < length row.now → at row.now t ≡ zero) ((t : ℕ) × (t < length row.now) × (at row.now t ≢ zero)) }
 {
-    for x in row {
-        if *x != zero {
-            return false;
+    row.iter().all(|x| *x == zero)
+}
+
+impl<'a, A: Arithmetic> Places<'a, A> {
+    /// Corrects a row of codes with the smudges of these cells and these power sums: where a label is within reach, the row is
+    /// then this label.
+    fn correct(&self, cells: &Cells<'_, A>, sums: &[u32], row: &mut [u32], work: &mut [u32])
+        requires lengths { (length self.now.points.now ≡ cells.now.scheme.now.n) × (length row.old ≡ length self.now.points.now) × (0 < length sums.now) × (length sums.now < length self.now.points.now) × (500 ≤ length work.old) }
+        requires few { cells.now.count ≤ length sums.now }
+        requires sum_codes { Codes (A.Arithmetic.meaning self.now.arithmetic.now) sums.now }
+        requires codes { Codes (A.Arithmetic.meaning self.now.arithmetic.now) row.old }
+        requires sums { PowerSums (A.Arithmetic.meaning self.now.arithmetic.now) row.old sums.now }
+        ensures { Different (A.Arithmetic.meaning self.now.arithmetic.now) (length self.now.points.now) → (label : List ℕ) → Near (A.Arithmetic.meaning self.now.arithmetic.now) (length sums.now) row.old cells.now.smudges.now label → row.new ≡ label }
+    {
+        let (suspects, rest) = work.split_at_mut(self.points.len());
+        let (left, rest) = rest.split_at_mut(sums.len());
+        self.find_suspects(cells, sums, suspects, rest);
+        self.fill(suspects, sums, row, left);
+    }
+}
+
+impl<'a, A: Arithmetic> Cells<'a, A> {
+    /// Finds the label within reach of the cells, in a row; the answer is its v.
+    fn find(&self, row: &mut [u32], work: &mut [u32]) -> Option<u32>
+        requires { (length row.old ≡ self.now.scheme.now.n) × (700 ≤ length work.old) }
+        ensures { MatchOption result ((label : List ℕ) → Near (A.Arithmetic.meaning self.now.scheme.now.arithmetic) (self.now.scheme.now.n - self.now.scheme.now.k) self.now.codes.now self.now.smudges.now label → ⊥) (λ v. (v ≡ count_of self.now.scheme.now.n (wrong self.now.codes.now self.now.smudges.now row.new)) × Near (A.Arithmetic.meaning self.now.scheme.now.arithmetic) (self.now.scheme.now.n - self.now.scheme.now.k) self.now.codes.now self.now.smudges.now row.new) }
+    {
+        let arithmetic = self.scheme.arithmetic();
+        let r = self.scheme.check_characters();
+        let count = self.count as usize;
+        if count > r {
+            return None;
         }
-    }
-    true
-}
-
-/// Corrects a row of codes with these smudges and power sums: where a label is within reach, the row is then this label.
-fn correct<A: Arithmetic>(
-    arithmetic: &A,
-    points: &[u32],
-    smudges: &[u32],
-    count: usize,
-    sums: &[u32],
-    row: &mut [u32],
-    work: &mut [u32],
-)
-    requires lengths { (length points.now ≤ 64) × (length smudges.now ≡ length points.now) × (length row.old ≡ length points.now) × (0 < length sums.now) × (length sums.now < length points.now) × (500 ≤ length work.old) }
-    requires count { (count ≡ count_of (length points.now) (marked smudges.now)) × (count ≤ length sums.now) }
-    requires points { Points (A.Arithmetic.meaning arithmetic.now) points.now }
-    requires point_codes { Codes (A.Arithmetic.meaning arithmetic.now) points.now }
-    requires sum_codes { Codes (A.Arithmetic.meaning arithmetic.now) sums.now }
-    requires codes { Codes (A.Arithmetic.meaning arithmetic.now) row.old }
-    requires sums { PowerSums (A.Arithmetic.meaning arithmetic.now) row.old sums.now }
-    ensures { Different (A.Arithmetic.meaning arithmetic.now) (length points.now) → (label : List ℕ) → Near (A.Arithmetic.meaning arithmetic.now) (length sums.now) row.old smudges.now label → row.new ≡ label }
-{
-    let (suspects, rest) = work.split_at_mut(points.len());
-    let (left, rest) = rest.split_at_mut(sums.len());
-    find_suspects(arithmetic, points, smudges, count, sums, suspects, rest);
-    fill(arithmetic, points, suspects, sums, row, left);
-}
-
-/// Finds the label within reach of cells with these smudges, in a row; the answer is its v.
-fn find<A: Arithmetic>(
-    scheme: &Scheme<A>,
-    cells: &[u32],
-    smudges: &[u32],
-    count: usize,
-    row: &mut [u32],
-    work: &mut [u32],
-) -> Option<u32>
-    requires lengths { (length cells.now ≡ scheme.now.n) × (length smudges.now ≡ scheme.now.n) × (length row.old ≡ scheme.now.n) × (700 ≤ length work.old) }
-    requires count { count ≡ count_of scheme.now.n (marked smudges.now) }
-    requires codes { Codes (A.Arithmetic.meaning scheme.now.arithmetic) cells.now }
-    ensures { MatchOption result (Different (A.Arithmetic.meaning scheme.now.arithmetic) scheme.now.n → (label : List ℕ) → Near (A.Arithmetic.meaning scheme.now.arithmetic) (scheme.now.n - scheme.now.k) cells.now smudges.now label → ⊥) (λ v. (v ≡ count_of scheme.now.n (wrong cells.now smudges.now row.new)) × Near (A.Arithmetic.meaning scheme.now.arithmetic) (scheme.now.n - scheme.now.k) cells.now smudges.now row.new) }
-{
-    let arithmetic = scheme.arithmetic();
-    let r = scheme.check_characters();
-    if count > r {
-        return None;
-    }
-    let (points, rest) = work.split_at_mut(cells.len());
-    let (sums, rest) = rest.split_at_mut(r);
-    write_points(arithmetic, points);
-    write_power_sums(arithmetic, points, cells, sums);
-    row.copy_from_slice(cells);
-    if count == 0 && all_equal(sums, arithmetic.zero()) {
-        return Some(0);
-    }
-    correct(arithmetic, points, smudges, count, sums, row, rest);
-    if !scheme.is_label(row) {
-        return None;
-    }
-    let wrong = count_wrong(cells, smudges, row);
-    if 2 * wrong as usize + count <= r {
-        Some(wrong)
-    } else {
-        None
+        let (points, rest) = work.split_at_mut(self.codes.len());
+        let (sums, rest) = rest.split_at_mut(r);
+        let places = Places::write(arithmetic, points);
+        places.write_power_sums(self.codes, sums);
+        row.copy_from_slice(self.codes);
+        if count == 0 && all_equal(sums, arithmetic.zero()) {
+            return Some(0);
+        }
+        places.correct(self, sums, row, rest);
+        if !self.scheme.is_label(row) {
+            return None;
+        }
+        let wrong = self.count_wrong(row);
+        (2 * wrong as usize + count <= r).then_some(wrong)
     }
 }
 
@@ -158,24 +134,20 @@ fn read_by<A: Arithmetic, R: Reading>(
     worksheet: &mut [u32],
     row: &mut [u32],
 ) -> Result<Found, Refusal>
-    ensures answers { MatchResult result (λ f. WellFormed (A.Arithmetic.meaning scheme.now.arithmetic).size scheme.now.n (R.Reading.shown reading.now) (length worksheet.old) (length row.old) × (IsScheme (A.Arithmetic.meaning scheme.now.arithmetic) scheme.now.n scheme.now.k scheme.now.doors → Reads (A.Arithmetic.meaning scheme.now.arithmetic) scheme.now.n scheme.now.k (R.Reading.shown reading.now) row.new f)) (NotRead (A.Arithmetic.meaning scheme.now.arithmetic) scheme.now.n scheme.now.k scheme.now.doors (R.Reading.shown reading.now) (length worksheet.old) (length row.old)) }
+    ensures answers { MatchResult result (λ f. WellFormed (A.Arithmetic.meaning scheme.now.arithmetic).size scheme.now.n (R.Reading.shown reading.now) (length worksheet.old) (length row.old) × Reads (A.Arithmetic.meaning scheme.now.arithmetic) scheme.now.n scheme.now.k (R.Reading.shown reading.now) row.new f) (NotRead (A.Arithmetic.meaning scheme.now.arithmetic) scheme.now.n scheme.now.k scheme.now.doors (R.Reading.shown reading.now) (length worksheet.old) (length row.old)) }
     ensures unchanged { OnErr result (row.new ≡ row.old) }
 {
-    let q = scheme.arithmetic().size();
-    let n = scheme.length();
-    take(reading, q, n, worksheet.len(), row.len())?;
-    let (cells, rest) = worksheet.split_at_mut(n);
-    let (smudges, rest) = rest.split_at_mut(n);
-    let (label, work) = rest.split_at_mut(n);
-    let count = write_cells(reading, q, cells, smudges)?;
-    let Some(misread) = find(scheme, cells, smudges, count as usize, label, work) else {
-        return Err(Refusal::NoLabel);
-    };
+    take(scheme, reading, worksheet.len(), row.len())?;
+    let (codes, rest) = worksheet.split_at_mut(scheme.length());
+    let (smudges, rest) = rest.split_at_mut(scheme.length());
+    let (label, work) = rest.split_at_mut(scheme.length());
+    let cells = Cells::open(scheme, reading, codes, smudges)?;
+    let misread = cells.find(label, work).ok_or(Refusal::NoLabel)?;
     row.copy_from_slice(label);
     Ok(Found {
-        door: door_number(q, scheme.door_characters(), row),
+        door: door_number(scheme, row),
         misread,
-        smudges: count,
+        smudges: cells.count,
     })
 }
 
@@ -193,10 +165,10 @@ pub fn read<A: Arithmetic, R: Reading>(
     worksheet: &mut [u32],
     row: &mut [u32],
 ) -> Result<Found, Refusal>
-    ensures answers { MatchResult result (λ f. WellFormed (A.Arithmetic.meaning scheme.now.arithmetic).size scheme.now.n (R.Reading.shown reading.now) (length worksheet.old) (length row.old) × (IsScheme (A.Arithmetic.meaning scheme.now.arithmetic) scheme.now.n scheme.now.k scheme.now.doors → Reads (A.Arithmetic.meaning scheme.now.arithmetic) scheme.now.n scheme.now.k (R.Reading.shown reading.now) row.new f)) (NotRead (A.Arithmetic.meaning scheme.now.arithmetic) scheme.now.n scheme.now.k scheme.now.doors (R.Reading.shown reading.now) (length worksheet.old) (length row.old)) }
+    ensures answers { MatchResult result (λ f. WellFormed (A.Arithmetic.meaning scheme.now.arithmetic).size scheme.now.n (R.Reading.shown reading.now) (length worksheet.old) (length row.old) × Reads (A.Arithmetic.meaning scheme.now.arithmetic) scheme.now.n scheme.now.k (R.Reading.shown reading.now) row.new f) (NotRead (A.Arithmetic.meaning scheme.now.arithmetic) scheme.now.n scheme.now.k scheme.now.doors (R.Reading.shown reading.now) (length worksheet.old) (length row.old)) }
     ensures unchanged { OnErr result (row.new ≡ row.old) }
     ensures zero { Zero worksheet.new }
-    ensures printed { IsScheme (A.Arithmetic.meaning scheme.now.arithmetic) scheme.now.n scheme.now.k scheme.now.doors → ReadBack (A.Arithmetic.meaning scheme.now.arithmetic) scheme.now.n scheme.now.k (R.Reading.shown reading.now) (length worksheet.old) (length row.old) result row.new }
+    ensures printed { ReadBack (A.Arithmetic.meaning scheme.now.arithmetic) scheme.now.n scheme.now.k (R.Reading.shown reading.now) (length worksheet.old) (length row.old) result row.new }
 {
     let guard = Guard(worksheet);
     read_by(scheme, reading, guard.0, row)

@@ -24,16 +24,10 @@ impl<'a> Reading for Scan<'a> {
     }
 
     fn cell(&self, q: u32, place: usize) -> Option<Cell> {
-        if place >= self.0.len() {
-            return None;
-        }
-        let piece = self.0[place];
+        let piece = *self.0.get(place)?;
         if piece == Self::SMUDGE {
             return Some(Cell::Smudge);
         }
-        if piece < q {
-            return Some(Cell::Code(piece));
-        }
-        None
+        (piece < q).then_some(Cell::Code(piece))
     }
 }

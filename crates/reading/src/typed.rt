@@ -31,13 +31,8 @@ fn character_cell(byte: u8, q: u32) -> Option<Cell>
     ensures value { result ≡ code_with q byte }
     ensures code { CodeBelow q result }
 {
-    let Some(code) = code_of(byte) else {
-        return None;
-    };
-    if code < q {
-        return Some(Cell::Code(code));
-    }
-    None
+    let code = code_of(byte)?;
+    (code < q).then_some(Cell::Code(code))
 }
 
 impl<'a> Reading for Typed<'a> {
@@ -56,10 +51,10 @@ impl<'a> Reading for Typed<'a> {
     }
 
     fn cell(&self, q: u32, place: usize) -> Option<Cell> {
-        if place >= self.0.len() || q > 64 {
+        if q > 64 {
             return None;
         }
-        let piece = self.0[place];
+        let piece = *self.0.get(place)?;
         if piece == Self::SMUDGE {
             return Some(Cell::Smudge);
         }

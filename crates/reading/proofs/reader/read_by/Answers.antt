@@ -1,56 +1,54 @@
 -- What the proof of `reader::read_by` leaves to be shown.
-use Rattle.std.proofs.Common.{◌≡◌, ◌%◌, ◌^◌, length, refl, ap, ◌∙◌, subst}
+use Rattle.std.proofs.Common.{◌≡◌, ◌-◌, length, Err, refl, sym, ap, ◌∙◌, subst}
+use Rattle.std.proofs.lemmas.Option.{MatchOption-at_some, MatchOption-at_none}
+use Rattle.std.proofs.lemmas.Result.{err_from_is_err_and}
+use Rattle.std.specs.Option.{ok_or}
 use Rattle.algebra.specs.Counts.{count}
-use Rattle.label.specs.Labels.{door}
-use Rattle.reading.specs.Answers.{Ready}
-use Rattle.reading.specs.Working.{Opened, marked}
+use Rattle.reading.specs.declared.refusal.Refusal.TheVariants.{NoLabel}
+use Rattle.reading.specs.Working.{Near, Opened, marked, wrong}
 use Rattle.reading.proofs.Reached.{Known, answered, not_read, well_formed}
 use Rattle.reading.proofs.reader.read_by.Goals as goal
 
-pub returns-in_default : goal.returns-in_default
-returns-in_default g c =
+pub returns-in_err-misread-clause-answers : goal.returns-in_err-misread-clause-answers
+returns-in_err-misread-clause-answers g c =
     let meaning = g.A.Arithmetic.meaning in
-    let m = meaning c.args.scheme.now.arithmetic in
+    let scheme = c.args.scheme.now in
+    let cells = c.in_ok-cells.cells in
     let shown = g.R.Reading.shown c.args.reading.now in
-    let cells = c.write_cells.new.cells in
-    let marks = c.write_cells.new.smudges in
-    let sized : c.size-q.result ≡ m.size = c.size-q.ensures ∙ ap (λ a. (meaning a).size) c.arithmetic.ensures in
-    let opened = c.in_ok-count.ensures in
-    let known : Known m c.args.scheme.now.n shown (length c.args.worksheet.now) (length c.args.row.now) cells marks = record {
-      ready = subst (λ n. Ready m.size n shown (length c.args.worksheet.now) (length c.args.row.now)) c.length-n.ensures
-          (subst (λ q. Ready q c.length-n.result shown (length c.args.worksheet.now) (length c.args.row.now)) sized c.in_ok-take.ensures);
-      length_cells = c.write_cells.auto.cells ∙ c.split_at_mut-cells.ensures.front_len ∙ c.length-n.ensures;
-      opened = subst (λ q. Opened q shown cells marks) sized opened.1;
+    let taken = c.in_ok-cells.ensures in
+    let known : Known (meaning scheme.arithmetic) scheme.n shown (length c.args.worksheet.now) (length c.args.row.now) cells.codes.now cells.smudges.now = record {
+      ready = c.in_ok-take.ensures;
+      length_cells = cells.lengths.0 ∙ ap (λ s. s.n) taken.0;
+      opened = taken.1;
     } in
-    record {
-      answers = not_read m _ _ _ shown _ _ cells marks known c.in_default.ensures;
-      unchanged = refl;
-    }
+    let p = err_from_is_err_and c.from_residual-in_err-misread.result c.from_residual-in_err-misread.ensures.1 in
+    let none = MatchOption-at_none _ _ c.in_err-misread.ensures.ok_part c.find.ensures in
+    let refusal = c.in_err-misread.ensures.value ∙ ap (λ o. ok_or o NoLabel) c.in_err-misread.ensures.ok_part in
+    let refused : c.from_residual-in_err-misread.result ≡ Err NoLabel = cc (p.1, p.2, refusal) in
+    rw refused (
+    not_read (meaning scheme.arithmetic) _ _ _ shown _ _ cells.codes.now cells.smudges.now known
+    (λ label near. none label (subst (λ s. Near (meaning s.arithmetic) (s.n - s.k) cells.codes.now cells.smudges.now label) (sym taken.0) near))
+    )
 
-pub returns : goal.returns
-returns g c =
+pub returns-clause-answers : goal.returns-clause-answers
+returns-clause-answers g c =
     let meaning = g.A.Arithmetic.meaning in
-    let m = meaning c.args.scheme.now.arithmetic in
+    let scheme = c.args.scheme.now in
+    let m = meaning scheme.arithmetic in
+    let cells = c.in_ok-cells.cells in
     let shown = g.R.Reading.shown c.args.reading.now in
-    let cells = c.write_cells.new.cells in
-    let marks = c.write_cells.new.smudges in
-    let sized : c.size-q.result ≡ m.size = c.size-q.ensures ∙ ap (λ a. (meaning a).size) c.arithmetic.ensures in
-    let opened = c.in_ok-count.ensures in
-    let known : Known m c.args.scheme.now.n shown (length c.args.worksheet.now) (length c.args.row.now) cells marks = record {
-      ready = subst (λ n. Ready m.size n shown (length c.args.worksheet.now) (length c.args.row.now)) c.length-n.ensures
-          (subst (λ q. Ready q c.length-n.result shown (length c.args.worksheet.now) (length c.args.row.now)) sized c.in_ok-take.ensures);
-      length_cells = c.write_cells.auto.cells ∙ c.split_at_mut-cells.ensures.front_len ∙ c.length-n.ensures;
-      opened = subst (λ q. Opened q shown cells marks) sized opened.1;
+    let taken = c.in_ok-cells.ensures in
+    let known : Known m scheme.n shown (length c.args.worksheet.now) (length c.args.row.now) cells.codes.now cells.smudges.now = record {
+      ready = c.in_ok-take.ensures;
+      length_cells = cells.lengths.0 ∙ ap (λ s. s.n) taken.0;
+      opened = taken.1;
     } in
-    let found = c.in-Some.ensures in
-    let row = c.copy_from_slice.new.self in
-    record {
-      answers = (
-        well_formed m _ shown _ _ cells marks known,
-        answered m (g.met.A.Arithmetic.lawful c.args.scheme.now.arithmetic) _ _ _ shown _ _ cells marks c.find.new.row row _ known found.1 found.0
-            c.copy_from_slice.ensures.after
-            (c.door_number.ensures ∙ ap (λ q. door q c.door_characters.result row % 2 ^ 32) sized ∙ ap (λ k. door m.size k row % 2 ^ 32) c.door_characters.ensures)
-            (opened.0 ∙ ap (λ j. count j (marked marks)) (c.split_at_mut-cells.ensures.front_len ∙ c.length-n.ensures)),
-      );
-      unchanged = tt;
-    }
+    let found = MatchOption-at_some _ _ c.in_ok-misread.misread c.in_ok-misread.ensures.ok_part c.find.ensures in (
+      well_formed m _ shown _ _ _ _ known,
+      answered m (g.met.A.Arithmetic.lawful scheme.arithmetic) _ _ scheme.is_scheme.different shown _ _ cells.codes.now cells.smudges.now c.find.new.row c.copy_from_slice.new.self _ known
+          (subst (λ s. Near (meaning s.arithmetic) (s.n - s.k) cells.codes.now cells.smudges.now c.find.new.row) taken.0 found.1)
+          (found.0 ∙ ap (λ s. count s.n (wrong cells.codes.now cells.smudges.now c.find.new.row)) taken.0)
+          c.copy_from_slice.ensures.after
+          c.door_number.ensures
+          (cells.counted ∙ ap (λ s. count s.n (marked cells.smudges.now)) taken.0),
+    )
