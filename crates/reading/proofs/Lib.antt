@@ -3,6 +3,5 @@ pub mod Corrected
 pub mod Counting
 pub mod Places
 pub mod Reached
-pub mod Removing
 pub mod Returned
 pub mod Suspected

@@ -5,7 +5,7 @@ ghost use Rattle.algebra.specs.Points.{other};
 ghost use Rattle.arithmetic.specs.Meaning.{Codes};
 ghost use Rattle.reading.specs.Working.{ErrorAt, Filled, Removed, at, divisor, marked, remains};
 
-use crate::points::{Places, fold_in};
+use crate::points::{Sums, fold_in};
 use arithmetic::Arithmetic;
 
 /// a - b
@@ -38,22 +38,22 @@ fn is_other(suspects: &[u32], place: usize, l: usize) -> bool
     suspects[l] != 0 && l != place
 }
 
-impl<'a, A: Arithmetic> Places<'a, A> {
-    /// Removes every suspect but `place` from power sums. The answer is the product of the differences of its point from theirs,
-    /// times its point.
-    fn remove_others(&self, suspects: &[u32], place: usize, sums: &mut [u32]) -> u32
-        requires lengths { (place < length self.now.points.now) × (length suspects.now ≡ length self.now.points.now) × (0 < length sums.old) }
-        requires codes { Codes (A.Arithmetic.meaning self.now.arithmetic.now) sums.old }
+impl<'a, A: Arithmetic> Sums<'a, A> {
+    /// Writes into a row what is left of the power sums when every suspect but `place` is removed. The answer is the product of
+    /// the differences of its point from theirs, times its point.
+    fn remove_others(&self, suspects: &[u32], place: usize, left: &mut [u32]) -> u32
+        requires { (place < length self.now.points.now) × (length suspects.now ≡ length self.now.points.now) × (length left.old ≡ length self.now.sums.now) }
         ensures value { result ≡ divisor (A.Arithmetic.meaning self.now.arithmetic.now) self.now.points.now suspects.now place }
         ensures code { result < (A.Arithmetic.meaning self.now.arithmetic.now).size }
-        ensures remains { count (length self.now.points.now) (other (marked suspects.now) place) < length sums.old → at sums.new 0 ≡ remains (A.Arithmetic.meaning self.now.arithmetic.now) self.now.points.now suspects.now sums.old place }
-        ensures codes { Codes (A.Arithmetic.meaning self.now.arithmetic.now) sums.new }
+        ensures remains { count (length self.now.points.now) (other (marked suspects.now) place) < length self.now.sums.now → at left.new 0 ≡ remains (A.Arithmetic.meaning self.now.arithmetic.now) self.now.points.now suspects.now self.now.sums.now place }
+        ensures codes { Codes (A.Arithmetic.meaning self.now.arithmetic.now) left.new }
     {
+        left.copy_from_slice(self.sums);
         let x = self.points[place];
         let mut product = self.arithmetic.one();
         for (l, point) in self.points.iter().enumerate() {
             if is_other(suspects, place, l) {
-                remove(self.arithmetic, *point, sums);
+                remove(self.arithmetic, *point, left);
                 let factor = difference(self.arithmetic, x, *point);
                 product = self.arithmetic.product(product, factor).unwrap();
             }
@@ -61,31 +61,28 @@ impl<'a, A: Arithmetic> Places<'a, A> {
         self.arithmetic.product(product, x).unwrap()
     }
 
-    /// The error at a suspect place, from as many power sums as there are suspects; `work` is a row of their number.
-    fn error_at(&self, suspects: &[u32], place: usize, sums: &[u32], work: &mut [u32]) -> u32
-        requires lengths { (place < length self.now.points.now) × (length suspects.now ≡ length self.now.points.now) × (0 < length sums.now) × (length work.old ≡ length sums.now) }
-        requires codes { Codes (A.Arithmetic.meaning self.now.arithmetic.now) sums.now }
-        ensures value { ErrorAt (A.Arithmetic.meaning self.now.arithmetic.now) self.now.points.now suspects.now sums.now place result }
+    /// The error at a suspect place, where there are not more suspects than power sums; `left` is a row of as many places.
+    fn error_at(&self, suspects: &[u32], place: usize, left: &mut [u32]) -> u32
+        requires { (place < length self.now.points.now) × (length suspects.now ≡ length self.now.points.now) × (length left.old ≡ length self.now.sums.now) }
+        ensures value { ErrorAt (A.Arithmetic.meaning self.now.arithmetic.now) self.now.points.now suspects.now self.now.sums.now place result }
         ensures code { result < (A.Arithmetic.meaning self.now.arithmetic.now).size }
     {
-        work.copy_from_slice(sums);
-        let divisor = self.remove_others(suspects, place, work);
+        let divisor = self.remove_others(suspects, place, left);
         match self.arithmetic.inverse(divisor) {
-            Ok(inverse) => self.arithmetic.product(work[0], inverse).unwrap(),
+            Ok(inverse) => self.arithmetic.product(left[0], inverse).unwrap(),
             Err(_) => self.arithmetic.zero(),
         }
     }
 
-    /// Takes the error at each suspect place from a row; `work` is a row of as many places as there are power sums.
-    pub(crate) fn fill(&self, suspects: &[u32], sums: &[u32], row: &mut [u32], work: &mut [u32])
-        requires lengths { (length row.old ≡ length self.now.points.now) × (length suspects.now ≡ length self.now.points.now) × (0 < length sums.now) × (length work.old ≡ length sums.now) }
-        requires sum_codes { Codes (A.Arithmetic.meaning self.now.arithmetic.now) sums.now }
+    /// Takes the error at each suspect place from a row; `left` is a row of as many places as there are power sums.
+    pub(crate) fn fill(&self, suspects: &[u32], row: &mut [u32], left: &mut [u32])
+        requires lengths { (length row.old ≡ length self.now.points.now) × (length suspects.now ≡ length self.now.points.now) × (length left.old ≡ length self.now.sums.now) }
         requires codes { Codes (A.Arithmetic.meaning self.now.arithmetic.now) row.old }
-        ensures filled { Filled (A.Arithmetic.meaning self.now.arithmetic.now) self.now.points.now suspects.now sums.now row.old row.new }
+        ensures filled { Filled (A.Arithmetic.meaning self.now.arithmetic.now) self.now.points.now suspects.now self.now.sums.now row.old row.new }
     {
         for (p, code) in row.iter_mut().enumerate() {
             if suspects[p] != 0 {
-                let error = self.error_at(suspects, p, sums, work);
+                let error = self.error_at(suspects, p, left);
                 *code = difference(self.arithmetic, *code, error);
             }
         }

@@ -6,36 +6,62 @@ ghost use Rattle.reading.specs.Working.{Points, PowerSums, at};
 
 use arithmetic::{Arithmetic, evaluate, less, write_powers};
 
-/// The places of a label over an arithmetic, by their points: the powers of the step, the power 0 last.
+/// Power sums of a row of codes, from the first on, and the points of its places: the powers of the step, the power 0 last.
 #[derive(Drop)]
-pub(crate) struct Places<'a, A: Arithmetic> {
+pub(crate) struct Sums<'a, A: Arithmetic> {
     pub(crate) arithmetic: &'a A,
     pub(crate) points: &'a [u32],
+    pub(crate) sums: &'a [u32],
+    ghost lengths: { (0 < length sums.now) × (length sums.now < length points.now) },
     ghost powers: { Points (A.Arithmetic.meaning arithmetic.now) points.now },
-    ghost are_codes: { Codes (A.Arithmetic.meaning arithmetic.now) points.now },
+    ghost point_codes: { Codes (A.Arithmetic.meaning arithmetic.now) points.now },
+    ghost sum_codes: { Codes (A.Arithmetic.meaning arithmetic.now) sums.now },
 }
 
-impl<'a, A: Arithmetic> Places<'a, A> {
-    /// Writes the points of as many places as a row has into the row.
-    pub(crate) fn write(arithmetic: &'a A, points: &'a mut [u32]) -> Places<'a, A>
-        ensures same { result.arithmetic.now ≡ arithmetic.now }
-        ensures long { length result.points.now ≡ length points.old }
-    {
-        write_powers(arithmetic, points);
-        points.reverse();
-        Places { arithmetic, points }
-    }
+/// Writes the points of the places into a row.
+fn write_points<A: Arithmetic>(arithmetic: &A, points: &mut [u32])
+    ensures points { Points (A.Arithmetic.meaning arithmetic.now) points.new }
+    ensures codes { Codes (A.Arithmetic.meaning arithmetic.now) points.new }
+{
+    write_powers(arithmetic, points);
+    points.reverse();
+}
 
-    /// Writes the power sums of a row of codes, from the first on, into another.
-    pub(crate) fn write_power_sums(&self, row: &[u32], sums: &mut [u32])
-        requires lengths { (length self.now.points.now ≡ length row.now) × (length sums.old < length row.now) }
-        requires codes { Codes (A.Arithmetic.meaning self.now.arithmetic.now) row.now }
-        ensures sums { PowerSums (A.Arithmetic.meaning self.now.arithmetic.now) row.now sums.new }
-        ensures codes { Codes (A.Arithmetic.meaning self.now.arithmetic.now) sums.new }
+/// Writes the power sums of a row of codes, whose places have these points, into another.
+fn write_power_sums<A: Arithmetic>(arithmetic: &A, points: &[u32], row: &[u32], sums: &mut [u32])
+    requires lengths { (length points.now ≡ length row.now) × (length sums.old < length row.now) }
+    requires points { Points (A.Arithmetic.meaning arithmetic.now) points.now }
+    requires point_codes { Codes (A.Arithmetic.meaning arithmetic.now) points.now }
+    requires codes { Codes (A.Arithmetic.meaning arithmetic.now) row.now }
+    ensures sums { PowerSums (A.Arithmetic.meaning arithmetic.now) row.now sums.new }
+    ensures codes { Codes (A.Arithmetic.meaning arithmetic.now) sums.new }
+{
+    for (t, sum) in sums.iter_mut().enumerate() {
+        let point = points[points.len() - 2 - t];
+        *sum = evaluate(arithmetic, row, point).unwrap();
+    }
+}
+
+impl<'a, A: Arithmetic> Sums<'a, A> {
+    /// Writes the points of the places of a row of codes, and its power sums, into two rows.
+    pub(crate) fn write(
+        arithmetic: &'a A,
+        row: &[u32],
+        points: &'a mut [u32],
+        sums: &'a mut [u32],
+    ) -> Sums<'a, A>
+        requires lengths { (length points.old ≡ length row.now) × (0 < length sums.old) × (length sums.old < length row.now) }
+        requires codes { Codes (A.Arithmetic.meaning arithmetic.now) row.now }
+        ensures same { result.arithmetic.now ≡ arithmetic.now }
+        ensures lengths { (length result.points.now ≡ length points.old) × (length result.sums.now ≡ length sums.old) }
+        ensures sums { PowerSums (A.Arithmetic.meaning arithmetic.now) row.now result.sums.now }
     {
-        for (t, sum) in sums.iter_mut().enumerate() {
-            let point = self.points[self.points.len() - 2 - t];
-            *sum = evaluate(self.arithmetic, row, point).unwrap();
+        write_points(arithmetic, points);
+        write_power_sums(arithmetic, points, row, sums);
+        Sums {
+            arithmetic,
+            points,
+            sums,
         }
     }
 }

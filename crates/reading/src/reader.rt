@@ -8,7 +8,7 @@ ghost use Rattle.reading.specs.Answers.{NoText, NotRead, NotReady, ReadBack, Rea
 ghost use Rattle.reading.specs.Working.{Near, Points, PowerSums, Zero, at, marked, wrong};
 
 use crate::cells::Cells;
-use crate::points::Places;
+use crate::points::Sums;
 use crate::reading::Reading;
 use crate::refusal::Refusal;
 use crate::worksheet::Guard;
@@ -80,21 +80,20 @@ fn all_equal(row: &[u32], zero: u32) -> bool
     row.iter().all(|x| *x == zero)
 }
 
-impl<'a, A: Arithmetic> Places<'a, A> {
-    /// Corrects a row of codes with the smudges of these cells and these power sums: where a label is within reach, the row is
+impl<'a, A: Arithmetic> Sums<'a, A> {
+    /// Corrects the row of codes whose power sums these are, by the smudges of cells: where a label is within reach, the row is
     /// then this label.
-    fn correct(&self, cells: &Cells<'_, A>, sums: &[u32], row: &mut [u32], work: &mut [u32])
-        requires lengths { (length self.now.points.now ≡ cells.now.scheme.now.n) × (length row.old ≡ length self.now.points.now) × (0 < length sums.now) × (length sums.now < length self.now.points.now) × (500 ≤ length work.old) }
-        requires few { cells.now.count ≤ length sums.now }
-        requires sum_codes { Codes (A.Arithmetic.meaning self.now.arithmetic.now) sums.now }
+    fn correct(&self, cells: &Cells<'_, A>, row: &mut [u32], work: &mut [u32])
+        requires lengths { (length self.now.points.now ≡ cells.now.scheme.now.n) × (length row.old ≡ length self.now.points.now) × (500 ≤ length work.old) }
+        requires few { cells.now.count ≤ length self.now.sums.now }
         requires codes { Codes (A.Arithmetic.meaning self.now.arithmetic.now) row.old }
-        requires sums { PowerSums (A.Arithmetic.meaning self.now.arithmetic.now) row.old sums.now }
-        ensures { Different (A.Arithmetic.meaning self.now.arithmetic.now) (length self.now.points.now) → (label : List ℕ) → Near (A.Arithmetic.meaning self.now.arithmetic.now) (length sums.now) row.old cells.now.smudges.now label → row.new ≡ label }
+        requires sums { PowerSums (A.Arithmetic.meaning self.now.arithmetic.now) row.old self.now.sums.now }
+        ensures { Different (A.Arithmetic.meaning self.now.arithmetic.now) (length self.now.points.now) → (label : List ℕ) → Near (A.Arithmetic.meaning self.now.arithmetic.now) (length self.now.sums.now) row.old cells.now.smudges.now label → row.new ≡ label }
     {
         let (suspects, rest) = work.split_at_mut(self.points.len());
-        let (left, rest) = rest.split_at_mut(sums.len());
-        self.find_suspects(cells, sums, suspects, rest);
-        self.fill(suspects, sums, row, left);
+        let (left, rest) = rest.split_at_mut(self.sums.len());
+        self.find_suspects(cells, suspects, rest);
+        self.fill(suspects, row, left);
     }
 }
 
@@ -112,13 +111,12 @@ impl<'a, A: Arithmetic> Cells<'a, A> {
         }
         let (points, rest) = work.split_at_mut(self.codes.len());
         let (sums, rest) = rest.split_at_mut(r);
-        let places = Places::write(arithmetic, points);
-        places.write_power_sums(self.codes, sums);
+        let sums = Sums::write(arithmetic, self.codes, points, sums);
         row.copy_from_slice(self.codes);
-        if count == 0 && all_equal(sums, arithmetic.zero()) {
+        if count == 0 && all_equal(sums.sums, arithmetic.zero()) {
             return Some(0);
         }
-        places.correct(self, sums, row, rest);
+        sums.correct(self, row, rest);
         if !self.scheme.is_label(row) {
             return None;
         }

@@ -6,7 +6,7 @@ ghost use Rattle.arithmetic.specs.Meaning.{Codes};
 ghost use Rattle.reading.specs.Working.{Folded, Points, Suspects, at, marked, suspect};
 
 use crate::cells::Cells;
-use crate::points::{Places, fold_in};
+use crate::points::{Sums, fold_in};
 use arithmetic::{Arithmetic, evaluate, iterate};
 
 /// Whether a multiplier, the coefficients the highest first, is zero at a point.
@@ -26,17 +26,17 @@ fn stop_at(r: usize, s: usize) -> usize
     (r + s - 1) / 2
 }
 
-impl<'a, A: Arithmetic> Places<'a, A> {
-    /// Folds the point of each smudge into power sums.
-    fn fold(&self, smudges: &[u32], sums: &mut [u32])
-        requires lengths { length smudges.now ≡ length self.now.points.now }
-        requires codes { Codes (A.Arithmetic.meaning self.now.arithmetic.now) sums.old }
-        ensures folded { Folded (A.Arithmetic.meaning self.now.arithmetic.now) self.now.points.now smudges.now sums.old sums.new }
-        ensures codes { Codes (A.Arithmetic.meaning self.now.arithmetic.now) sums.new }
+impl<'a, A: Arithmetic> Sums<'a, A> {
+    /// Writes the power sums into a row, with the point of each smudge folded in.
+    fn fold(&self, smudges: &[u32], folded: &mut [u32])
+        requires { (length smudges.now ≡ length self.now.points.now) × (length folded.old ≡ length self.now.sums.now) }
+        ensures folded { Folded (A.Arithmetic.meaning self.now.arithmetic.now) self.now.points.now smudges.now self.now.sums.now folded.new }
+        ensures codes { Codes (A.Arithmetic.meaning self.now.arithmetic.now) folded.new }
     {
+        folded.copy_from_slice(self.sums);
         for (p, point) in self.points.iter().enumerate() {
             if smudges[p] != 0 {
-                fold_in(self.arithmetic, *point, sums);
+                fold_in(self.arithmetic, *point, folded);
             }
         }
     }
@@ -54,26 +54,18 @@ impl<'a, A: Arithmetic> Places<'a, A> {
         }
     }
 
-    /// Marks the suspect places of cells with these power sums, at most as many as power sums.
-    pub(crate) fn find_suspects(
-        &self,
-        cells: &Cells<'_, A>,
-        sums: &[u32],
-        suspects: &mut [u32],
-        work: &mut [u32],
-    )
-        requires lengths { (length self.now.points.now ≡ cells.now.scheme.now.n) × (length suspects.old ≡ length self.now.points.now) × (0 < length sums.now) × (length sums.now < length self.now.points.now) × (300 ≤ length work.old) }
-        requires few { cells.now.count ≤ length sums.now }
-        requires codes { Codes (A.Arithmetic.meaning self.now.arithmetic.now) sums.now }
-        ensures { Suspects (A.Arithmetic.meaning self.now.arithmetic.now) cells.now.smudges.now sums.now suspects.new }
+    /// Marks the suspect places of cells, at most as many as power sums.
+    pub(crate) fn find_suspects(&self, cells: &Cells<'_, A>, suspects: &mut [u32], work: &mut [u32])
+        requires lengths { (length self.now.points.now ≡ cells.now.scheme.now.n) × (length suspects.old ≡ length self.now.points.now) × (300 ≤ length work.old) }
+        requires few { cells.now.count ≤ length self.now.sums.now }
+        ensures { Suspects (A.Arithmetic.meaning self.now.arithmetic.now) cells.now.smudges.now self.now.sums.now suspects.new }
     {
-        let r = sums.len();
+        let r = self.sums.len();
         let stop = stop_at(r, cells.count as usize);
         let (folded, rest) = work.split_at_mut(r);
         let (big, rest) = rest.split_at_mut(r + 1);
         let (big_multiplier, rest) = rest.split_at_mut(r - stop);
         let (multiplier, _) = rest.split_at_mut(r - stop);
-        folded.copy_from_slice(sums);
         self.fold(cells.smudges, folded);
         iterate(
             self.arithmetic,

@@ -9,11 +9,11 @@ returns-then-all_equal g c =
     let meaning = g.A.Arithmetic.meaning in
     let self = c.args.self.now in
     let cells = self.codes.now in
-    let sums = c.write_power_sums.new.sums in
-    let same = c.write-places.ensures.same ∙ c.arithmetic-arithmetic.ensures in
+    let sums = c.write-sums.result.sums.now in
+    let same = c.arithmetic-arithmetic.ensures in
     clean (meaning self.scheme.now.arithmetic) _ _ cells self.smudges.now sums c.copy_from_slice.new.self
     c.copy_from_slice.ensures.after self.lengths.0 self.are_codes
-    (c.write_power_sums.auto.sums ∙ c.split_at_mut-sums.ensures.front_len ∙ c.check_characters-r.ensures)
-    (subst (λ a. PowerSums (meaning a) cells sums) same c.write_power_sums.ensures.sums)
-    (λ t l. c.if-all_equal.ensures t l ∙ c.zero.ensures.0 ∙ ap (λ a. (meaning a).codes.zero) c.arithmetic-arithmetic.ensures)
+    (c.write-sums.ensures.lengths.1 ∙ c.split_at_mut-sums.ensures.front_len ∙ c.check_characters-r.ensures)
+    (subst (λ a. PowerSums (meaning a) cells sums) same c.write-sums.ensures.sums)
+    (λ t l. c.if-all_equal.ensures t l ∙ c.zero.ensures.0 ∙ ap (λ a. (meaning a).codes.zero) same)
     (sym self.counted ∙ c.if-count-eq0.true)

@@ -1,14 +1,14 @@
--- What the proof of `Places::correct` leaves to be shown.
+-- What the proof of `Sums::correct` leaves to be shown.
 use Rattle.std.proofs.Common.{refl, sym, ◌∙◌}
 use Rattle.reading.proofs.Corrected.{mended}
-use Rattle.reading.proofs.points.Places.correct.Goals as goal
+use Rattle.reading.proofs.points.Sums.correct.Goals as goal
 
 pub returns : goal.returns
 returns g c d label near =
     let self = c.args.self.now in
     let cells = c.args.cells.now in
     let a = self.arithmetic.now in
-    mended (g.A.Arithmetic.meaning a) (g.met.A.Arithmetic.lawful a) _ self.points.now cells.smudges.now c.args.sums.now
+    mended (g.A.Arithmetic.meaning a) (g.met.A.Arithmetic.lawful a) _ self.points.now cells.smudges.now self.sums.now
     c.find_suspects.new.suspects c.args.row.now c.fill.new.row
     (record {
       length_points = refl;
@@ -16,7 +16,7 @@ returns g c d label near =
       length_before = c.requires.lengths.1;
       length_after = c.fill.auto.row ∙ c.requires.lengths.1;
       points_are = self.powers;
-      sum_codes = c.requires.sum_codes;
+      sum_codes = self.sum_codes;
       codes = c.requires.codes;
       sums_are = c.requires.sums;
       suspected = c.find_suspects.ensures;

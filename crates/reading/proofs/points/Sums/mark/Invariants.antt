@@ -1,7 +1,7 @@
--- What the loops of `Places::mark` keep, and what falls.
+-- What the loops of `Sums::mark` keep, and what falls.
 use Rattle.std.proofs.Common.{◌≡◌, ℕ, ◌<◌}
 use Rattle.reading.specs.Working.{marked, suspect}
-use Rattle.reading.proofs.points.Places.mark.Given as goal
+use Rattle.reading.proofs.points.Sums.mark.Given as goal
 
 abbrev pub invariant-loop-p : goal.invariant-loop-p
 invariant-loop-p g l =

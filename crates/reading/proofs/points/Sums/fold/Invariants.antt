@@ -1,14 +1,14 @@
--- What the loops of `Places::fold` keep, and what falls.
+-- What the loops of `Sums::fold` keep, and what falls.
 use Rattle.std.proofs.Common.{◌≡◌, ℕ, ◌<◌, length}
 use Rattle.algebra.specs.Points.{folded}
 use Rattle.arithmetic.specs.Meaning.{Codes}
 use Rattle.reading.specs.Working.{at, marked}
-use Rattle.reading.proofs.points.Places.fold.Given as goal
+use Rattle.reading.proofs.points.Sums.fold.Given as goal
 
 abbrev pub invariant-loop-p : goal.invariant-loop-p
 invariant-loop-p g l =
     let m = g.A.Arithmetic.meaning l.self.arithmetic.now in
     record {
-      folded_sums : (t : ℕ) → t < length l.initial.sums → at l.sums t ≡ folded m.codes (at l.self.points.now) (marked l.smudges) (at l.initial.sums) l.p t;
-      codes : Codes m l.sums;
+      folded_sums : (t : ℕ) → t < length l.self.sums.now → at l.folded t ≡ folded m.codes (at l.self.points.now) (marked l.smudges) (at l.self.sums.now) l.p t;
+      codes : Codes m l.folded;
     }

@@ -1,23 +1,23 @@
--- What the proof of `Places::write_power_sums` leaves to be shown.
+-- What the proof of `points::write_power_sums` leaves to be shown.
 use Rattle.std.proofs.Common.{◌≡◌, ℕ, suc, ◌-◌, ◌<◌, ◌≢◌, length, get_or, Ok, ap, ◌∙◌, subst, arith, get_or-set_other, get_or-set_same, below_more}
 use Rattle.algebra.specs.Polynomials.{pow}
 use Rattle.arithmetic.specs.Answers.{OfRow}
 use Rattle.label.specs.Labels.{power_sum}
 use Rattle.label.proofs.Values.{value_is}
-use Rattle.reading.proofs.points.Places.write_power_sums.Goals as goal
+use Rattle.reading.proofs.points.write_power_sums.Goals as goal
 
 pub loop-t-preserved : goal.loop-t-preserved
 loop-t-preserved g c =
-    let self = c.args.self.now in
-    let a = self.arithmetic.now in
+    let a = c.args.arithmetic.now in
+    let points = c.args.points.now in
     let m = g.A.Arithmetic.meaning a in
     let row = c.args.row.now in
     let t = c.loop-t.t in
-    let at : ℕ = length self.points.now - 2 - t in
-    let x : ℕ = get_or self.points.now at 0 in
+    let at : ℕ = length points - 2 - t in
+    let x : ℕ = get_or points at 0 in
     let lt : t < length c.loop-t.sums = omega arith in
-    let e : length self.points.now - 1 - at ≡ suc t = omega arith in
-    let power : x ≡ pow m.codes m.step (suc t) = self.powers at (omega arith) ∙ ap (pow m.codes m.step) e in
+    let e : length points - 1 - at ≡ suc t = omega arith in
+    let power : x ≡ pow m.codes m.step (suc t) = c.requires.points at (omega arith) ∙ ap (pow m.codes m.step) e in
     let known : OfRow m row x (Ok c.unwrap.result) = subst (OfRow m row x) c.unwrap.ensures c.evaluate.ensures in
     let value : c.unwrap.result ≡ power_sum m (length row) row (suc t) = value_is m (g.met.A.Arithmetic.lawful a) row x (suc t) c.unwrap.result c.evaluate.result c.evaluate.ensures c.unwrap.ensures power in
     below_more _ _ (λ i h. let ne : i ≢ t = omega arith in (rw get_or-set_other (c.loop-t.invariant i h).0, rw get_or-set_other (c.loop-t.invariant i h).1))
