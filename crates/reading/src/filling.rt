@@ -68,10 +68,10 @@ impl<'a, A: Arithmetic> Sums<'a, A> {
         ensures code { result < (A.Arithmetic.meaning self.now.arithmetic.now).size }
     {
         let divisor = self.remove_others(suspects, place, left);
-        match self.arithmetic.inverse(divisor) {
-            Ok(inverse) => self.arithmetic.product(left[0], inverse).unwrap(),
-            Err(_) => self.arithmetic.zero(),
-        }
+        self.arithmetic
+            .inverse(divisor)
+            .and_then(|inverse| self.arithmetic.product(left[0], inverse))
+            .unwrap_or(self.arithmetic.zero())
     }
 
     /// Takes the error at each suspect place from a row; `left` is a row of as many places as there are power sums.

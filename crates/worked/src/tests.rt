@@ -7,23 +7,13 @@ use std::test::Fail;
 
 /// The scheme of these tests.
 fn scheme() -> Result<Scheme<BinaryField>, Fail> {
-    let Ok(field) = BinaryField::open(11) else {
-        return Err(Fail::new("no field"));
-    };
-    match Scheme::lay_out(field, 4, 2) {
-        Ok(scheme) => Ok(scheme),
-        Err(_) => Err(Fail::new("no scheme")),
-    }
+    let field = BinaryField::open(11).map_err(|_| Fail::new("no field"))?;
+    Scheme::lay_out(field, 4, 2).map_err(|_| Fail::new("no scheme"))
 }
 
 /// Whether every number of a row is this one.
 fn all(row: &[u32], number: u32) -> bool {
-    for x in row {
-        if *x != number {
-            return false;
-        }
-    }
-    true
+    row.iter().all(|x| *x == number)
 }
 
 /// A reading is answered this door, v and s.
@@ -37,9 +27,7 @@ fn reads<R: Reading>(
     let scheme = scheme()?;
     let mut worksheet = [7u32; 1030];
     let mut row = [9u32; 4];
-    let Ok(found) = read(&scheme, reading, &mut worksheet, &mut row) else {
-        return Err(Fail::new("refused"));
-    };
+    let found = read(&scheme, reading, &mut worksheet, &mut row).map_err(|_| Fail::new("refused"))?;
     assert!(rt; all(&worksheet, 0));
     assert!(rt; scheme.is_label(&row));
     assert_eq!(rt; found.door, door);
