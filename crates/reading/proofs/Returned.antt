@@ -8,7 +8,7 @@ use Rattle.reading.specs.declared.cell.Cell.{Cell}
 use Rattle.reading.specs.declared.cell.Cell.TheVariants.{Code, Smudge}
 use Rattle.reading.specs.declared.reader.Found.{Found}
 use Rattle.reading.specs.declared.refusal.Refusal.{Refusal}
-use Rattle.reading.specs.Answers.{NotRead, ReadBack, Reads, WellFormed, clean}
+use Rattle.reading.specs.Answers.{NoText, NotRead, ReadBack, Reads, WellFormed, clean}
 use Rattle.reading.specs.Reach.{InReach, is_smudge, is_wrong, misread, smudges}
 use Rattle.reading.specs.Readings.{Shown, byte_cell, code_with, number_cell, scanned, typed}
 use Rattle.reading.proofs.Characters.{code_of_character}
@@ -34,24 +34,6 @@ not_wrong q (suc n) s label l h =
 
 found-clean : (f : Found) (d : ℕ) → f.door ≡ d → f.misread ≡ 0 → f.smudges ≡ 0 → f ≡ clean d
 found-clean f d a b c i = record { door = a i; misread = b i; smudges = c i }
-
-module _ (m : Meaning) (n k doors : ℕ) (s : Shown) (worksheet len : ℕ) (row : List ℕ) (d : ℕ) (label : List ℕ) (of : LabelOf m n k d label)
-    (formed : WellFormed m.size n s worksheet len) (shows : Shows m.size s label) where
-  reach : InReach m.size n (n - k) s label
-  reach = omega (arith, no_smudge m.size n s label (omega (arith, of.label.long)) shows, not_wrong m.size n s label (omega (arith, of.label.long)) shows)
-
-  back : (r : Result Found Refusal)
-      → MatchResult r (λ f. WellFormed m.size n s worksheet len × Reads m n k s row f) (NotRead m n k doors s worksheet len)
-      → (r ≡ Ok (clean d)) × (row ≡ label)
-  back (Err e) h = absurd ((h.none formed).1 label of.label reach)
-  back (Ok f) h =
-      let reads = h.1 in
-      let same : label ≡ row = reads.only label of.label reach in (
-        ap Ok (found-clean f d (reads.its_door ∙ ap (door m.size k) (sym same) ∙ of.its_door)
-            (reads.its_misread ∙ ap (misread m.size n s) (sym same) ∙ not_wrong m.size n s label (omega (arith, of.label.long)) shows)
-            (reads.its_smudges ∙ no_smudge m.size n s label (omega (arith, of.label.long)) shows)),
-        sym same,
-      )
 
 -- a row of codes, as a scan
 scan_shows : (m : Meaning) → Lawful m → (label : List ℕ) → Codes m label → Shows m.size (scanned label) label
@@ -91,34 +73,48 @@ shown_cells m n s label e h p l none = go (sym (h p (omega (arith, e))) ∙ none
         legible None = ⊥
         legible (Some c) = Unit
 
-pub read_back :
-    (m : Meaning) (L : Lawful m) (n k doors : ℕ) (s : Shown) (worksheet len : ℕ) (r : Result Found Refusal) (row : List ℕ)
-    → MatchResult r (λ f. WellFormed m.size n s worksheet len × Reads m n k s row f) (NotRead m n k doors s worksheet len)
-    → ReadBack m n k s worksheet len r row
-read_back m L n k doors s worksheet len r row h = record {
-  codes = λ d label of e enough fits.
-      let shows = subst (λ s. Shows m.size s label) (sym e) (scan_shows m L label of.label.codes) in
-      let plain : s.text ≡ false = ap (λ s. s.text) e in
-      back m n k doors s worksheet len row d label of
-      (record {
-        ready = record {
-          readable = λ t. both_ways s.text plain t.0;
-          enough = enough;
-          fits = fits;
-          long = ap (λ s. s.pieces) e ∙ of.label.long;
-        };
-        cells = shown_cells m n s label of.label.long shows;
-      }) shows r h;
-  text = λ d label characters of few spelled e enough fits.
-      let shows = subst (λ s. Shows m.size s label) (sym e) (text_shows m L few label characters of.label.codes spelled) in
-      back m n k doors s worksheet len row d label of
-      (record {
-        ready = record {
-          readable = λ t. absurd (omega (arith, few, t.1));
-          enough = enough;
-          fits = fits;
-          long = ap (λ s. s.pieces) e ∙ spelled.0 ∙ of.label.long;
-        };
-        cells = shown_cells m n s label of.label.long shows;
-      }) shows r h;
-}
+module _ (m : Meaning) (n k doors : ℕ) (s : Shown) (worksheet len : ℕ) (r : Result Found Refusal) (row : List ℕ)
+    (h : MatchResult r (λ f. WellFormed m.size n s worksheet len × Reads m n k s row f) (NotRead m n k doors s worksheet len)) where
+  -- a reading that can be taken, and shows the label of a door
+  returned :
+      (d : ℕ) (label : List ℕ) → LabelOf m n k d label → (NoText m.size s → ⊥) → s.pieces ≡ length label → Shows m.size s label → 1024 ≤ worksheet → len ≡ n
+      → (r ≡ Ok (clean d)) × (row ≡ label)
+  returned d label of readable long shows enough fits = back r h
+    where
+      e : length label ≡ n
+      e = of.label.long
+
+      formed : WellFormed m.size n s worksheet len
+      formed = record {
+        ready = record { readable = readable; enough = enough; fits = fits; long = long ∙ e };
+        cells = shown_cells m n s label e shows;
+      }
+
+      none-wrong : misread m.size n s label ≡ 0
+      none-wrong = not_wrong m.size n s label (omega (arith, e)) shows
+
+      none_smudged : smudges m.size n s ≡ 0
+      none_smudged = no_smudge m.size n s label (omega (arith, e)) shows
+
+      reach : InReach m.size n (n - k) s label
+      reach = omega (arith, none_smudged, none-wrong)
+
+      back : (r : Result Found Refusal) → MatchResult r (λ f. WellFormed m.size n s worksheet len × Reads m n k s row f) (NotRead m n k doors s worksheet len)
+          → (r ≡ Ok (clean d)) × (row ≡ label)
+      back (Err e) h = absurd ((h.none formed).1 label of.label reach)
+      back (Ok f) h =
+          let same : label ≡ row = h.1.only label of.label reach in (
+            ap Ok (found-clean f d (h.1.its_door ∙ ap (door m.size k) (sym same) ∙ of.its_door)
+                (h.1.its_misread ∙ ap (misread m.size n s) (sym same) ∙ none-wrong) (h.1.its_smudges ∙ none_smudged)),
+            sym same,
+          )
+
+  pub read_back : Lawful m → ReadBack m n k s worksheet len r row
+  read_back L = record {
+    codes = λ d label of e.
+        returned d label of (λ t. both_ways s.text (ap (λ s. s.text) e) t.0) (ap (λ s. s.pieces) e)
+        (subst (λ s. Shows m.size s label) (sym e) (scan_shows m L label of.label.codes));
+    text = λ d label characters of few spelled e.
+        returned d label of (λ t. absurd (omega (arith, few, t.1))) (ap (λ s. s.pieces) e ∙ spelled.0)
+        (subst (λ s. Shows m.size s label) (sym e) (text_shows m L few label characters of.label.codes spelled));
+  }

@@ -4,6 +4,7 @@ use mathlib.Core.Path.{fun_ext}
 use Prim.Native.Nat.{Fin}
 use native.Mathlib.Decide.{dec_lt}
 use borrow.Author.Tests.{eqb-false, both_ways}
+use Rattle.std.proofs.lemmas.Bool.Decides.{nat_tests}
 use Rattle.algebra.specs.Operations.{Operations}
 use Rattle.algebra.specs.Codes.{Closed, coded}
 use Rattle.algebra.specs.Counts.{count}
@@ -43,11 +44,7 @@ count_either (suc n) E W = go (E n) (W n) (count_either n E W)
 
 -- a place that is neither a smudge nor wrong
 pub clear : (y smudges c : List ℕ) (i : ℕ) → wrong y smudges c i ≡ false → marked smudges i ≡ false → get_or y i 0 ≡ get_or c i 0
-clear y smudges c i f g = eqb-true (get_or y i 0) (get_or c i 0) (same (eqb (get_or y i 0) (get_or c i 0)) (sym (ap (λ b. cond b false (not (eqb (get_or y i 0) (get_or c i 0)))) g) ∙ f))
-  where
-    same : (b : Bool) → not b ≡ false → b ≡ true
-    same true h = refl
-    same false h = absurd (both_ways true h refl)
+clear y smudges c i f g = grind (arith, nat_tests)
 
 not_true : (b : Bool) → not b ≡ true → b ≡ false
 not_true true e = absurd (both_ways false refl e)
@@ -184,31 +181,3 @@ all_suspects m L n D stop points smudges sums row multiplier small w e suspects 
       h p (omega (arith, e, w.length_points))
       ∙ located m L n D stop points smudges sums row multiplier small w (subst (Different m) e d) y c (yl ∙ e) yc ps near p (omega (arith, e)) f;
 }
-
--- what is known after the iteration from z^r, where r is the number of power sums, down to `stop`
-pub iterated_suspects :
-    (m : Meaning) (L : Lawful m) (stop s : ℕ) (points smudges sums row suspects : List ℕ)
-    (k : ℕ) (b bm sm multiplier : List ℕ) (was : List ℕ)
-    → Iterated m (length sums) stop (polynomial_of row) k b bm sm multiplier
-    → length was ≡ width (length sums) stop → length multiplier ≡ length was
-    → length smudges ≡ length points → s ≡ count (length points) (marked smudges) → s ≤ length sums → 0 < length sums
-    → 2 * stop < length sums + s → length sums + s ≤ 2 * stop + 2
-    → Points m points → Codes m sums → Folded m points smudges sums row
-    → ((p : ℕ) → p < length points → marked suspects p ≡ suspect m points smudges multiplier p)
-    → Suspects m smudges sums suspects
-iterated_suspects m L stop s points smudges sums row suspects k b bm sm multiplier was it lw lm ls es few pos low high pt sc fo h =
-    all_suspects m L (length points) (length sums - 1 - stop) stop points smudges sums row multiplier (after m.codes (length sums) (polynomial_of row) k).small_multiplier
-    (record {
-      length_points = refl;
-      length_sums = omega (arith, es, few, pos, low);
-      length_multiplier = lm ∙ lw;
-      stops = omega (arith, es, few, pos, low, high);
-      goes_on = omega (arith, es, low);
-      points_are = pt;
-      sum_codes = sc;
-      folded_sums = fo;
-      codes = it.codes.3;
-      held = it.held.small_multiplier;
-      key = it.key;
-      nonzero = it.nonzero;
-    }) ls suspects h

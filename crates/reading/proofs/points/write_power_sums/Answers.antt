@@ -1,7 +1,7 @@
 -- What the proof of `points::write_power_sums` leaves to be shown.
 use Rattle.std.proofs.Common.{◌≡◌, ℕ, suc, ◌-◌, ◌<◌, ◌≢◌, length, get_or, Ok, ap, ◌∙◌, subst, arith, get_or-set_other, get_or-set_same, below_more}
+use Rattle.std.proofs.lemmas.Grind.{common_steps}
 use Rattle.algebra.specs.Polynomials.{pow}
-use Rattle.arithmetic.specs.Answers.{OfRow}
 use Rattle.label.specs.Labels.{power_sum}
 use Rattle.label.proofs.Values.{value_is}
 use Rattle.reading.proofs.points.write_power_sums.Goals as goal
@@ -15,10 +15,7 @@ loop-t-preserved g c =
     let t = c.loop-t.t in
     let at : ℕ = length points - 2 - t in
     let x : ℕ = get_or points at 0 in
-    let lt : t < length c.loop-t.sums = omega arith in
     let e : length points - 1 - at ≡ suc t = omega arith in
     let power : x ≡ pow m.codes m.step (suc t) = c.requires.points at (omega arith) ∙ ap (pow m.codes m.step) e in
-    let known : OfRow m row x (Ok c.unwrap.result) = subst (OfRow m row x) c.unwrap.ensures c.evaluate.ensures in
     let value : c.unwrap.result ≡ power_sum m (length row) row (suc t) = value_is m (g.met.A.Arithmetic.lawful a) row x (suc t) c.unwrap.result c.evaluate.result c.evaluate.ensures c.unwrap.ensures power in
-    below_more _ _ (λ i h. let ne : i ≢ t = omega arith in (rw get_or-set_other (c.loop-t.invariant i h).0, rw get_or-set_other (c.loop-t.invariant i h).1))
-    (rw get_or-set_same value, rw get_or-set_same known.2)
+    grind (arith, common_steps)
