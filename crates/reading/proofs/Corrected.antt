@@ -1,7 +1,7 @@
 -- Where a label is within reach, the row from which the errors at the suspect places were taken is this label.
 use Rattle.std.proofs.Common.{◌≡◌, ℕ, suc, ◌+◌, ◌<◌, ◌≤◌, Bool, true, false, List, [], ◌∷◌, length, get_or, sym, refl, ap, ◌∙◌, subst, ap₂, arith}
 use Prim.Native.Nat.{Fin}
-use borrow.Author.Tests.{both_ways}
+use Rattle.std.proofs.lemmas.Bool.{both_ways, false_from_ne_true}
 use Rattle.std.proofs.lemmas.List.{same_lists, get_or_default}
 use Rattle.algebra.specs.Operations.{Operations}
 use Rattle.algebra.specs.Counts.{count}
@@ -63,15 +63,11 @@ module _ (m : Meaning) (L : Lawful m) (n : ℕ) (points smudges power-sums suspe
 
   -- a place that is not suspect is right
   outside : (p : ℕ) → p < n → P p ≡ false → get_or before p 0 ≡ get_or c p 0
-  outside p l f = clear before smudges c p (plain (wrong before smudges c p) refl) (legible (marked smudges p) refl)
-    where
-      plain : (b : Bool) → wrong before smudges c p ≡ b → wrong before smudges c p ≡ false
-      plain false e = e
-      plain true e = absurd (both_ways (P p) f (w.suspected.located different before c (w.length_before ∙ sym w.length_smudges) w.codes w.sums_are near p (omega (arith, w.length_smudges)) e))
-
-      legible : (b : Bool) → marked smudges p ≡ b → marked smudges p ≡ false
-      legible false e = e
-      legible true e = absurd (both_ways (P p) f (w.suspected.smudged p (omega (arith, w.length_smudges)) e))
+  outside p l f =
+      let g : p < length smudges = omega (arith, w.length_smudges) in
+      clear before smudges c p
+      (false_from_ne_true _ (λ e. both_ways (P p) f (w.suspected.located different before c (w.length_before ∙ sym w.length_smudges) w.codes w.sums_are near p g e)))
+      (false_from_ne_true _ (λ e. both_ways (P p) f (w.suspected.smudged p g e)))
 
   place_is : (p : ℕ) → p < n → at points p ≡ (x p).0
   place_is = Places.points_are m L n points w.length_points w.points_are

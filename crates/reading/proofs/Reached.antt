@@ -67,13 +67,7 @@ one_label m L n r s d h a b la ra lb rb = apart m L n r d a b la lb (omega (arit
 -- a row differs nowhere from itself
 wrong_itself : (n : ℕ) (cells marks : List ℕ) → 0 ≡ count n (wrong cells marks cells)
 wrong_itself zero cells marks = refl
-wrong_itself (suc n) cells marks =
-    let here : cond (wrong cells marks cells n) 1 0 ≡ 0 = ap {B = ℕ} (λ b. cond b 1 0) (none (marked marks n)) in
-    omega (arith, wrong_itself n cells marks, here)
-  where
-    none : (b : Bool) → cond b false (not (eqb (at cells n) (at cells n))) ≡ false
-    none true = refl
-    none false = ap not (eq-eqb (at cells n) (at cells n) refl)
+wrong_itself (suc n) cells marks = let h = wrong_itself n cells marks in grind (arith, nat_tests)
 
 -- cells without a smudge whose power sums are zero are a label themselves
 pub clean :

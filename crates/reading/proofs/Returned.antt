@@ -1,6 +1,6 @@
 -- A label that is read back as it was printed.
 use Rattle.std.proofs.Common.{◌≡◌, ℕ, zero, suc, ◌-◌, ◌<◌, ◌≤◌, false, cond, not, eqb, ltb, List, length, get_or, Some, None, Ok, Err, Option, Result, sym, refl, ap, ◌∙◌, subst, arith, le-ltb, lt-ltb, eq-eqb, ne_eqb, MatchResult}
-use borrow.Author.Tests.{both_ways}
+use Rattle.std.proofs.lemmas.Bool.{both_ways}
 use Rattle.std.proofs.lemmas.Bool.Decides.{nat_tests}
 use Rattle.arithmetic.specs.Meaning.{Meaning, Lawful, Codes}
 use Rattle.label.specs.Labels.{LabelOf, Spelled, character, door}
@@ -20,17 +20,12 @@ Shows q s label = (p : ℕ) → p < length label → s.cell q p ≡ Some (Code (
 no_smudge : (q n : ℕ) (s : Shown) (label : List ℕ) → n ≤ length label → Shows q s label → smudges q n s ≡ 0
 unfolding Shows
 no_smudge q zero s label l h = refl
-no_smudge q (suc n) s label l h =
-    let here : cond (is_smudge (s.cell q n)) 1 0 ≡ 0 = ap {B = ℕ} (λ c. cond (is_smudge c) 1 0) (h n (omega arith)) in
-    omega (arith, no_smudge q n s label (omega arith) h, here)
+no_smudge q (suc n) s label l h = let here = h n (omega arith) in let rest = no_smudge q n s label (omega arith) h in grind (arith, nat_tests)
 
 not_wrong : (q n : ℕ) (s : Shown) (label : List ℕ) → n ≤ length label → Shows q s label → misread q n s label ≡ 0
 unfolding Shows
 not_wrong q zero s label l h = refl
-not_wrong q (suc n) s label l h =
-    let a = get_or label n 0 in
-    let here : cond (is_wrong (s.cell q n) a) 1 0 ≡ 0 = ap {B = ℕ} (λ c. cond (is_wrong c a) 1 0) (h n (omega arith)) ∙ ap {B = ℕ} (λ b. cond (not b) 1 0) (eq-eqb a a refl) in
-    omega (arith, not_wrong q n s label (omega arith) h, here)
+not_wrong q (suc n) s label l h = let here = h n (omega arith) in let rest = not_wrong q n s label (omega arith) h in grind (arith, nat_tests)
 
 found-clean : (f : Found) (d : ℕ) → f.door ≡ d → f.misread ≡ 0 → f.smudges ≡ 0 → f ≡ clean d
 found-clean f d a b c i = record { door = a i; misread = b i; smudges = c i }
@@ -38,12 +33,7 @@ found-clean f d a b c i = record { door = a i; misread = b i; smudges = c i }
 -- a row of codes, as a scan
 scan_shows : (m : Meaning) → Lawful m → (label : List ℕ) → Codes m label → Shows m.size (scanned label) label
 unfolding Shows
-scan_shows m L label codes p l =
-    let c = get_or label p 0 in
-    let low = codes p l in
-    ap (λ b. cond b (number_cell m.size c) None) (lt-ltb p (length label) l)
-    ∙ ap (λ b. cond b (Some Smudge) (cond (ltb c m.size) (Some (Code c)) None)) (ne_eqb c 4294967295 (omega (arith, L.most, low)))
-    ∙ ap (λ b. cond b (Some (Code c)) None) (lt-ltb c m.size low)
+scan_shows m L label codes p l = let low = codes p l in grind (arith, nat_tests, L.most)
 
 -- no character is a question mark
 no_mark : (c : ℕ) → character c ≡ 63 → ⊥
@@ -54,24 +44,14 @@ text_shows : (m : Meaning) → Lawful m → m.size ≤ 64 → (label text : List
 unfolding Shows
 text_shows m L few label text codes spelled p l =
     let c = get_or label p 0 in
-    let b = get_or text p 0 in
-    let q = m.size in
-    ap (λ t. cond t (byte_cell q b) None) (lt-ltb p (length text) (omega (arith, spelled.0)))
-    ∙ ap (λ t. cond t None (cond (eqb b 63) (Some Smudge) (code_with q b))) (le-ltb 64 q few)
-    ∙ ap (λ b. cond (eqb b 63) (Some Smudge) (code_with q b)) (spelled.1 p l)
-    ∙ ap (λ t. cond t (Some Smudge) (code_with q (character c))) (ne_eqb (character c) 63 (no_mark c))
-    ∙ code_of_character q c few (codes p l)
+    let same = spelled.1 p l in
+    let mark = no_mark c in
+    let code = code_of_character m.size c few (codes p l) in
+    grind (arith, nat_tests, spelled.0)
 
 shown_cells : (m : Meaning) (n : ℕ) (s : Shown) (label : List ℕ) → length label ≡ n → Shows m.size s label → (p : ℕ) → p < n → s.cell m.size p ≡ None → ⊥
 unfolding Shows
-shown_cells m n s label e h p l none = go (sym (h p (omega (arith, e))) ∙ none)
-  where
-    go : {c : ℕ} → Some (Code c) ≡ None → ⊥
-    go e = subst legible e tt
-      where
-        legible : Option Cell → Type 0
-        legible None = ⊥
-        legible (Some c) = Unit
+shown_cells m n s label e h p l none = let shown = h p (omega (arith, e)) in cc
 
 module _ (m : Meaning) (n k doors : ℕ) (s : Shown) (worksheet len : ℕ) (r : Result Found Refusal) (row : List ℕ)
     (h : MatchResult r (λ f. WellFormed m.size n s worksheet len × Reads m n k s row f) (NotRead m n k doors s worksheet len)) where

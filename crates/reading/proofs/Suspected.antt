@@ -3,7 +3,7 @@ use Rattle.std.proofs.Common.{◌≡◌, ℕ, zero, suc, ◌+◌, ◌-◌, ◌*�
 use mathlib.Core.Path.{fun_ext}
 use Prim.Native.Nat.{Fin}
 use native.Mathlib.Decide.{dec_lt}
-use borrow.Author.Tests.{eqb-false, both_ways}
+use Rattle.std.proofs.lemmas.Bool.{eqb-false, not-true}
 use Rattle.std.proofs.lemmas.Bool.Decides.{nat_tests}
 use Rattle.algebra.specs.Operations.{Operations}
 use Rattle.algebra.specs.Codes.{Closed, coded}
@@ -33,22 +33,11 @@ conv_down q o C N a f e u (suc t) l = ap₂ (λ b c. o.sum (o.prod (u 0).0 b) c)
 -- either test
 count_either : (n : ℕ) (E W : ℕ → Bool) → count n (λ p. cond (E p) true (W p)) ≤ count n E + count n W
 count_either zero E W = omega arith
-count_either (suc n) E W = go (E n) (W n) (count_either n E W)
-  where
-    go : (a b : Bool) → count n (λ p. cond (E p) true (W p)) ≤ count n E + count n W
-        → count n (λ p. cond (E p) true (W p)) + cond (cond a true b) 1 0 ≤ count n E + cond a 1 0 + (count n W + cond b 1 0)
-    go true true h = omega arith
-    go true false h = omega arith
-    go false true h = omega arith
-    go false false h = omega arith
+count_either (suc n) E W = let h = count_either n E W in grind (arith, nat_tests)
 
 -- a place that is neither a smudge nor wrong
 pub clear : (y smudges c : List ℕ) (i : ℕ) → wrong y smudges c i ≡ false → marked smudges i ≡ false → get_or y i 0 ≡ get_or c i 0
 clear y smudges c i f g = grind (arith, nat_tests)
-
-not_true : (b : Bool) → not b ≡ true → b ≡ false
-not_true true e = absurd (both_ways false refl e)
-not_true false e = refl
 
 module _ (m : Meaning) (L : Lawful m) (n D stop : ℕ) (points smudges sums row multiplier : List ℕ) (small : ℕ → ℕ) where
   -- What is known of the working rows: `row` has the folded power sums, and `multiplier` holds the coefficients `small`.
@@ -163,7 +152,7 @@ module _ (m : Meaning) (L : Lawful m) (n D stop : ℕ) (points smudges sums row 
           multiplier_short equations
           (λ i k f u. Places.error_zero m L n (length sums) y c yc lab i (clear y smudges c i f u))
           (omega (arith, subst (λ k. 2 * count k (wrong y smudges c) + count k (marked smudges) ≤ length sums) yl near.reach, w.goes_on, w.length_sums))
-          p l g (λ z. eqb-false (at y p) (at c p) (not_true _ h) (Places.error_same m L n (length sums) y c yc lab p z))))
+          p l g (λ z. eqb-false (at y p) (at c p) (not-true _ h) (Places.error_same m L n (length sums) y c yc lab p z))))
 
 -- the suspects that are marked by the multiplier
 pub all_suspects :
