@@ -27,24 +27,6 @@ taken_wrong None y f a h = absurd h
 taken_wrong (Some (Code c)) y f a h = ap₂ (λ y f. cond (not (eqb f 0)) false (not (eqb y a))) (sym h.0) (sym h.1)
 taken_wrong (Some Smudge) y f a h = ap (λ f. cond (not (eqb f 0)) false (not (eqb y a))) (sym h.1)
 
-module _ (q n : ℕ) (s : Shown) (cells marks : List ℕ) (e : length cells ≡ n) (w : Opened q s cells marks) where
-  pub smudges_are : smudges q n s ≡ count n (marked marks)
-  smudges_are = count_same n _ _ (λ p l. taken_smudge (s.cell q p) (at cells p) (at marks p) (w p (omega (arith, e))))
-
-  pub misread_are : (row : List ℕ) → misread q n s row ≡ count n (wrong cells marks row)
-  misread_are row = count_same n _ _ (λ p l. taken_wrong (s.cell q p) (at cells p) (at marks p) (at row p) (w p (omega (arith, e))))
-
-  -- a label is within reach of the reading where it is within reach of the rows
-  pub reach_of_near : (m : Meaning) (r : ℕ) (row : List ℕ) → Near m r cells marks row → InReach q n r s row
-  reach_of_near m r row near =
-      omega (arith, smudges_are, misread_are row, subst (λ k. 2 * count k (wrong cells marks row) + count k (marked marks) ≤ r) e near.reach)
-
-  pub near_of_reach : (m : Meaning) (r : ℕ) (row : List ℕ) → Label m n r row → InReach q n r s row → Near m r cells marks row
-  near_of_reach m r row lab reach = record {
-    label = subst (λ k. Label m k r row) (sym e) lab;
-    reach = subst (λ k. 2 * count k (wrong cells marks row) + count k (marked marks) ≤ r) (sym e) (omega (arith, smudges_are, misread_are row, reach));
-  }
-
 one_place : (c : Option Cell) (a b : ℕ) → (c ≡ None → ⊥) → cond (eqb a b) 0 1 ≤ cond (is_smudge c) 1 0 + cond (is_wrong c a) 1 0 + cond (is_wrong c b) 1 0
 one_place None a b h = absurd (h refl)
 one_place (Some (Code c)) a b h = grind (arith, nat_tests)
@@ -89,52 +71,65 @@ clean m n r cells marks sums row same e codes long ps zeros none =
       },
     )
 
--- each place has a cell
-pub each_cell : (q n : ℕ) (s : Shown) (cells marks : List ℕ) → length cells ≡ n → Opened q s cells marks → (p : ℕ) → p < n → s.cell q p ≡ None → ⊥
-each_cell q n s cells marks e w p l none = subst (λ c. Taken c (at cells p) (at marks p)) none (w p (omega (arith, e)))
-
 -- What is known of a reading whose cells were taken.
 pub record Known (m : Meaning) (n : ℕ) (s : Shown) (worksheet row : ℕ) (cells marks : List ℕ) : Type 0 where
   pub ready : Ready m.size n s worksheet row
   pub length_cells : length cells ≡ n
   pub opened : Opened m.size s cells marks
 
--- it is refused by 16 where no label is near its cells
-pub not_read :
-    (m : Meaning) (n k doors : ℕ) (s : Shown) (worksheet row : ℕ) (cells marks : List ℕ) → Known m n s worksheet row cells marks
-    → ((label : List ℕ) → Near m (n - k) cells marks label → ⊥) → NotRead m n k doors s worksheet row NoLabel
-not_read m n k doors s worksheet row cells marks w none = record {
-  before = record {
-    no_text = λ t. absurd (w.ready.readable t);
-    short = λ t l. absurd (omega (arith, w.ready.enough));
-    misfits = λ t l d. absurd (d w.ready.fits);
-    other_count = λ t l e d. absurd (d w.ready.long);
-  };
-  no_cell = λ ready p g first. absurd (each_cell m.size n s cells marks w.length_cells w.opened p g first.0);
-  none = λ formed. ((refl, refl), λ label lab reach. none label (near_of_reach m.size n s cells marks w.length_cells w.opened m (n - k) label lab reach));
-}
+module _ (m : Meaning) (n : ℕ) (s : Shown) (worksheet len : ℕ) (cells marks : List ℕ) (w : Known m n s worksheet len cells marks) where
+  taken : (p : ℕ) → p < n → Taken (s.cell m.size p) (at cells p) (at marks p)
+  taken p l = w.opened p (omega (arith, w.length_cells))
 
-pub well_formed :
-    (m : Meaning) (n : ℕ) (s : Shown) (worksheet row : ℕ) (cells marks : List ℕ) → Known m n s worksheet row cells marks → WellFormed m.size n s worksheet row
-well_formed m n s worksheet row cells marks w = record {
-  ready = w.ready;
-  cells = each_cell m.size n s cells marks w.length_cells w.opened;
-}
+  smudges_are : smudges m.size n s ≡ count n (marked marks)
+  smudges_are = count_same n _ _ (λ p l. taken_smudge (s.cell m.size p) (at cells p) (at marks p) (taken p l))
 
--- it is answered by the label that is near its cells
-pub answered :
-    (m : Meaning) (L : Lawful m) (n k : ℕ) (different : Different m n) (s : Shown) (worksheet len : ℕ) (cells marks label row : List ℕ) (f : Found)
-    → Known m n s worksheet len cells marks → Near m (n - k) cells marks label → f.misread ≡ count n (wrong cells marks label) → row ≡ label
-    → f.door ≡ door m.size k row → f.smudges ≡ count n (marked marks) → Reads m n k s row f
-answered m L n k different s worksheet len cells marks label row f w near' v same d c =
-    let near : Near m (n - k) cells marks row = subst (Near m (n - k) cells marks) (sym same) near' in
-    let lab : Label m n (n - k) row = subst (λ j. Label m j (n - k) row) w.length_cells near.label in
-    let reach = reach_of_near m.size n s cells marks w.length_cells w.opened m (n - k) row near in
-    record {
-      label = lab;
-      reach = reach;
-      only = λ other lab' reach'. one_label m L n (n - k) s different (each_cell m.size n s cells marks w.length_cells w.opened) other row lab' reach' lab reach;
-      its_door = d;
-      its_misread = v ∙ ap (λ l. count n (wrong cells marks l)) (sym same) ∙ sym (misread_are m.size n s cells marks w.length_cells w.opened row);
-      its_smudges = c ∙ sym (smudges_are m.size n s cells marks w.length_cells w.opened);
-    }
+  misread_are : (row : List ℕ) → misread m.size n s row ≡ count n (wrong cells marks row)
+  misread_are row = count_same n _ _ (λ p l. taken_wrong (s.cell m.size p) (at cells p) (at marks p) (at row p) (taken p l))
+
+  -- each place has a cell
+  each_cell : (p : ℕ) → p < n → s.cell m.size p ≡ None → ⊥
+  each_cell p l none = subst (λ c. Taken c (at cells p) (at marks p)) none (taken p l)
+
+  -- a label is within reach of the reading where it is within reach of the rows
+  reach_of_near : (r : ℕ) (row : List ℕ) → Near m r cells marks row → InReach m.size n r s row
+  reach_of_near r row near =
+      omega (arith, smudges_are, misread_are row, subst (λ k. 2 * count k (wrong cells marks row) + count k (marked marks) ≤ r) w.length_cells near.reach)
+
+  near_of_reach : (r : ℕ) (row : List ℕ) → Label m n r row → InReach m.size n r s row → Near m r cells marks row
+  near_of_reach r row lab reach = record {
+    label = subst (λ k. Label m k r row) (sym w.length_cells) lab;
+    reach = subst (λ k. 2 * count k (wrong cells marks row) + count k (marked marks) ≤ r) (sym w.length_cells) (omega (arith, smudges_are, misread_are row, reach));
+  }
+
+  pub well_formed : WellFormed m.size n s worksheet len
+  well_formed = record { ready = w.ready; cells = each_cell }
+
+  -- it is refused by 16 where no label is near its cells
+  pub not_read : (k doors : ℕ) → ((label : List ℕ) → Near m (n - k) cells marks label → ⊥) → NotRead m n k doors s worksheet len NoLabel
+  not_read k doors none = record {
+    before = record {
+      no_text = λ t. absurd (w.ready.readable t);
+      short = λ t l. absurd (omega (arith, w.ready.enough));
+      misfits = λ t l d. absurd (d w.ready.fits);
+      other_count = λ t l e d. absurd (d w.ready.long);
+    };
+    no_cell = λ ready p g first. absurd (each_cell p g first.0);
+    none = λ formed. ((refl, refl), λ label lab reach. none label (near_of_reach (n - k) label lab reach));
+  }
+
+  -- it is answered by the label that is near its cells
+  pub answered :
+      (L : Lawful m) (k : ℕ) → Different m n → (row : List ℕ) (f : Found) → Near m (n - k) cells marks row
+      → f.misread ≡ count n (wrong cells marks row) → f.door ≡ door m.size k row → f.smudges ≡ count n (marked marks) → Reads m n k s row f
+  answered L k different row f near v d c =
+      let lab : Label m n (n - k) row = subst (λ j. Label m j (n - k) row) w.length_cells near.label in
+      let reach = reach_of_near (n - k) row near in
+      record {
+        label = lab;
+        reach = reach;
+        only = λ other lab' reach'. one_label m L n (n - k) s different each_cell other row lab' reach' lab reach;
+        its_door = d;
+        its_misread = v ∙ sym (misread_are row);
+        its_smudges = c ∙ sym smudges_are;
+      }

@@ -143,7 +143,7 @@ fn read_by<A: Arithmetic, R: Reading>(
     let misread = cells.find(label, work).ok_or(Refusal::NoLabel)?;
     row.copy_from_slice(label);
     Ok(Found {
-        door: door_number(scheme, row),
+        door: door_number(scheme, label),
         misread,
         smudges: cells.count,
     })
