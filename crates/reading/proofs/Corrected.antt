@@ -14,7 +14,7 @@ use Rattle.algebra.proofs.Solver.{reify}
 use Rattle.algebra.proofs.Solver
 use Rattle.arithmetic.specs.Meaning.{Meaning, Lawful, Codes}
 use Rattle.label.specs.Labels.{Different, Label, power_sum}
-use Rattle.reading.specs.Working.{ErrorAt, Filled, Near, Points, PowerSums, Suspects, at, divisor, marked, remains, wrong}
+use Rattle.reading.specs.Working.{ErrorAt, Filled, Near, Points, PowerSums, Suspects, at, divisor, marked, remains}
 use Rattle.reading.proofs.Places.{entry}
 use Rattle.reading.proofs.Places
 use Rattle.reading.proofs.Suspected.{clear}

@@ -1,13 +1,11 @@
 -- The reach of a reading and that of the rows that its cells were written into, and that one label at most is within reach.
-use Rattle.std.proofs.Common.{◌≡◌, ℕ, zero, suc, ◌+◌, ◌-◌, ◌*◌, ◌%◌, ◌^◌, ◌<◌, ◌≤◌, Bool, true, false, cond, not, eqb, List, length, get_or, Some, None, Option, sym, refl, ap, ◌∙◌, subst, ap₂, mul-le-mul_right, mod-eq_of_lt, suc-mul, pow-suc, arith, eq-eqb}
-use native.Mathlib.Nat.{pow-zero}
+use Rattle.std.proofs.Common.{◌≡◌, ℕ, zero, suc, ◌+◌, ◌-◌, ◌*◌, ◌<◌, ◌≤◌, false, cond, not, eqb, List, length, get_or, Some, None, Option, sym, refl, ap, ◌∙◌, subst, ap₂, arith}
 use Rattle.std.proofs.lemmas.Bool.Decides.{nat_tests}
 use Rattle.algebra.specs.Counts.{count}
 use Rattle.algebra.proofs.Counts.{count_same}
 use Rattle.arithmetic.specs.Meaning.{Meaning, Lawful, Codes}
 use Rattle.label.specs.Labels.{Different, Label, differences, door, power_sum}
-use Rattle.label.specs.Schemes.{IsScheme}
-use Rattle.label.proofs.Apart.{apart, code_in}
+use Rattle.label.proofs.Apart.{apart}
 use Rattle.reading.specs.declared.cell.Cell.{Cell}
 use Rattle.reading.specs.declared.cell.Cell.TheVariants.{Code, Smudge}
 use Rattle.reading.specs.declared.reader.Found.{Found}

@@ -1,16 +1,15 @@
 -- A label that is read back as it was printed.
-use Rattle.std.proofs.Common.{◌≡◌, ℕ, zero, suc, ◌-◌, ◌<◌, ◌≤◌, false, cond, not, eqb, ltb, List, length, get_or, Some, None, Ok, Err, Option, Result, sym, refl, ap, ◌∙◌, subst, arith, le-ltb, lt-ltb, eq-eqb, ne_eqb, MatchResult}
+use Rattle.std.proofs.Common.{◌≡◌, ℕ, zero, suc, ◌-◌, ◌<◌, ◌≤◌, List, length, get_or, Some, None, Ok, Err, Result, sym, refl, ap, ◌∙◌, subst, arith, MatchResult}
 use Rattle.std.proofs.lemmas.Bool.{both_ways}
 use Rattle.std.proofs.lemmas.Bool.Decides.{nat_tests}
 use Rattle.arithmetic.specs.Meaning.{Meaning, Lawful, Codes}
 use Rattle.label.specs.Labels.{LabelOf, Spelled, character, door}
-use Rattle.reading.specs.declared.cell.Cell.{Cell}
-use Rattle.reading.specs.declared.cell.Cell.TheVariants.{Code, Smudge}
+use Rattle.reading.specs.declared.cell.Cell.TheVariants.{Code}
 use Rattle.reading.specs.declared.reader.Found.{Found}
 use Rattle.reading.specs.declared.refusal.Refusal.{Refusal}
 use Rattle.reading.specs.Answers.{NoText, NotRead, ReadBack, Reads, WellFormed, clean}
-use Rattle.reading.specs.Reach.{InReach, is_smudge, is_wrong, misread, smudges}
-use Rattle.reading.specs.Readings.{Shown, byte_cell, code_with, number_cell, scanned, typed}
+use Rattle.reading.specs.Reach.{InReach, misread, smudges}
+use Rattle.reading.specs.Readings.{Shown, scanned, typed}
 use Rattle.reading.proofs.Characters.{code_of_character}
 
 -- a reading shows a row of codes

@@ -1,5 +1,5 @@
 -- The suspects that the small multiplier gives: every place that is wrong for a label within reach, and not more than power sums.
-use Rattle.std.proofs.Common.{◌≡◌, ℕ, zero, suc, ◌+◌, ◌-◌, ◌*◌, ◌<◌, ◌≤◌, Bool, true, false, cond, not, eqb, List, length, get_or, sym, refl, ap, ◌∙◌, subst, ap₂, arith, eq-eqb, eqb-true}
+use Rattle.std.proofs.Common.{◌≡◌, ℕ, zero, suc, ◌+◌, ◌*◌, ◌<◌, ◌≤◌, Bool, true, false, cond, not, eqb, List, length, get_or, sym, refl, ap, ◌∙◌, subst, ap₂, arith, eq-eqb, eqb-true}
 use mathlib.Core.Path.{fun_ext}
 use Prim.Native.Nat.{Fin}
 use native.Mathlib.Decide.{dec_lt}
@@ -16,10 +16,9 @@ use Rattle.algebra.proofs.Counts.{count_same}
 use Rattle.algebra.proofs.Locating.{locator, locator_value}
 use Rattle.algebra.proofs.Locating
 use Rattle.arithmetic.specs.Meaning.{Meaning, Lawful, Codes}
-use Rattle.algebra.specs.Iteration.{after}
-use Rattle.arithmetic.specs.Rows.{Holds, Iterated, polynomial_of, width}
+use Rattle.arithmetic.specs.Rows.{Holds}
 use Rattle.label.specs.Labels.{Different, Label, power_sum}
-use Rattle.reading.specs.Working.{Folded, Near, Points, PowerSums, Suspects, at, marked, suspect, wrong}
+use Rattle.reading.specs.Working.{Near, Points, PowerSums, Suspects, at, marked, suspect, wrong}
 use Rattle.reading.proofs.Places.{entry}
 use Rattle.reading.proofs.Places
 

@@ -36,10 +36,12 @@ fn write_cells<R: Reading>(
     requires lengths { (length codes.old ≤ 64) × (length smudges.old ≡ length codes.old) }
     ensures { MatchResult result (λ _. Opened q (R.Reading.shown reading.now) codes.new smudges.new × ((p : ℕ) → p < length codes.old → at codes.new p < q)) (λ e. (p : ℕ) × (p < length codes.old) × FirstWithout q (R.Reading.shown reading.now) p × Refused e 15 p) }
 {
+    // The other row goes by index: of what a zip with `iter_mut` writes nothing is known.
     for (p, code) in codes.iter_mut().enumerate() {
         let cell = reading.cell(q, p).ok_or(Refusal::NoCell(p as u32))?;
         let (taken, mark) = cell.taken();
         *code = taken;
+        // A mark is a number: the worksheet is one slice of 32-bit numbers, which the caller lends.
         smudges[p] = mark;
     }
     Ok(())

@@ -30,7 +30,7 @@ fn remove<A: Arithmetic>(arithmetic: &A, x: u32, sums: &mut [u32])
     sums.rotate_left(1);
 }
 
-/// Whether place `l` is suspect and is not `place`
+/// Whether place `l` is suspect and is not `place`.
 fn is_other(suspects: &[u32], place: usize, l: usize) -> bool
     requires { l < length suspects.now }
     ensures { result ≡ other (marked suspects.now) place l }
@@ -80,6 +80,7 @@ impl<'a, A: Arithmetic> Sums<'a, A> {
         requires codes { Codes (A.Arithmetic.meaning self.now.arithmetic.now) row.old }
         ensures filled { Filled (A.Arithmetic.meaning self.now.arithmetic.now) self.now.points.now suspects.now self.now.sums.now row.old row.new }
     {
+        // The suspects go by index: of what a zip with `iter_mut` writes nothing is known.
         for (p, code) in row.iter_mut().enumerate() {
             if suspects[p] != 0 {
                 let error = self.error_at(suspects, p, left);

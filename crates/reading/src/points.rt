@@ -36,6 +36,7 @@ fn write_power_sums<A: Arithmetic>(arithmetic: &A, points: &[u32], row: &[u32], 
     ensures sums { PowerSums (A.Arithmetic.meaning arithmetic.now) row.now sums.new }
     ensures codes { Codes (A.Arithmetic.meaning arithmetic.now) sums.new }
 {
+    // The points go by index: of what a zip with `iter_mut` writes nothing is known.
     for (t, sum) in sums.iter_mut().enumerate() {
         let point = points[points.len() - 2 - t];
         *sum = evaluate(arithmetic, row, point).unwrap();

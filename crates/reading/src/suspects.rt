@@ -47,6 +47,7 @@ impl<'a, A: Arithmetic> Sums<'a, A> {
         requires codes { Codes (A.Arithmetic.meaning self.now.arithmetic.now) multiplier.now }
         ensures { (p : ℕ) → p < length self.now.points.now → marked suspects.new p ≡ suspect (A.Arithmetic.meaning self.now.arithmetic.now) self.now.points.now smudges.now multiplier.now p }
     {
+        // The other rows go by index: of what a zip with `iter_mut` writes nothing is known.
         for (p, suspect) in suspects.iter_mut().enumerate() {
             let is_suspect = smudges[p] != 0
                 || vanishes(self.arithmetic, multiplier, self.points[p]);

@@ -1,5 +1,5 @@
 -- What the proof of `points::write_power_sums` leaves to be shown.
-use Rattle.std.proofs.Common.{◌≡◌, ℕ, suc, ◌-◌, ◌<◌, ◌≢◌, length, get_or, Ok, ap, ◌∙◌, subst, arith, get_or-set_other, get_or-set_same, below_more}
+use Rattle.std.proofs.Common.{◌≡◌, ℕ, suc, ◌-◌, length, get_or, ap, ◌∙◌, arith}
 use Rattle.std.proofs.lemmas.Grind.{common_steps}
 use Rattle.algebra.specs.Polynomials.{pow}
 use Rattle.label.specs.Labels.{power_sum}
