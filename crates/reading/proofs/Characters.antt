@@ -1,5 +1,5 @@
 -- The characters of the codes below 64 are different, so that a character has one code.
-use Rattle.std.proofs.Common.{◌≡◌, ℕ, zero, suc, ◌-◌, ◌<◌, ◌≤◌, cond, eqb, ltb, Some, None, sym, refl, ap, ◌∙◌, arith, le-ltb, lt-ltb, eq-eqb, ne_eqb}
+use Rattle.std.proofs.Common.{◌≡◌, ℕ, zero, suc, ◌-◌, ◌<◌, ◌≤◌, cond, eqb, ltb, Some, None, sym, refl, ap, ◌∙◌, arith, eq-eqb}
 use Rattle.std.specs.Bool.{then_some}
 use native.Mathlib.Decide.{dec_lt}
 use Rattle.std.proofs.lemmas.Bool.Decides.{nat_tests}
@@ -20,7 +20,7 @@ character_once a b l h e = sym (decoded_character a l) ∙ ap decoded e ∙ deco
 -- a character of no code below q gives no code
 pub code-none : (q b : ℕ) → ((c : ℕ) → c < q → character c ≡ b → ⊥) → code_with q b ≡ None
 code-none zero b h = refl
-code-none (suc c) b h = ap (λ t. cond t (Some (Code c)) (code_with c b)) (ne_eqb (character c) b (h c (omega arith))) ∙ code-none c b (λ i l. h i (omega arith))
+code-none (suc c) b h = let other = h c (omega arith) in let rest = code-none c b (λ i l. h i (omega arith)) in grind (arith, nat_tests)
 
 -- the character of a code below q gives this code
 pub code-some : (q c b : ℕ) → q ≤ 64 → c < q → character c ≡ b → code_with q b ≡ Some (Code c)
@@ -30,10 +30,11 @@ code-some (suc d) c b most l e = at (dec_lt c d) (λ below. code-some d c b (ome
     at : Dec (c < d) → (c < d → code_with d b ≡ Some (Code c)) → code_with (suc d) b ≡ Some (Code c)
     at (yes below) before =
         let other : character d ≡ b → ⊥ = λ f. let g : d ≡ c = character_once d c (omega arith) (omega arith) (f ∙ sym e) in omega arith in
-        ap (λ t. cond t (Some (Code d)) (code_with d b)) (ne_eqb (character d) b other) ∙ before below
+        let rest = before below in
+        grind (arith, nat_tests)
     at (no above) before =
-        let g : c ≡ d = omega arith in
-        ap (λ t. cond t (Some (Code d)) (code_with d b)) (eq-eqb (character d) b (ap character (sym g) ∙ e)) ∙ ap (λ i. Some (Code i)) (sym g)
+        let same : c ≡ d = omega arith in
+        ap (λ t. cond t (Some (Code d)) (code_with d b)) (eq-eqb (character d) b (ap character (sym same) ∙ e)) ∙ ap (λ i. Some (Code i)) (sym same)
 
 pub code_of_character : (q c : ℕ) → q ≤ 64 → c < q → code_with q (character c) ≡ Some (Code c)
 code_of_character q c most l = code-some q c (character c) most l refl
@@ -43,7 +44,7 @@ pub code-found : (q c b : ℕ) → q ≤ 64 → c < 64 → character c ≡ b →
 code-found q c b most l e = at (dec_lt c q)
   where
     at : Dec (c < q) → then_some (ltb c q) (Code c) ≡ code_with q b
-    at (yes below) = ap (λ t. then_some t (Code c)) (lt-ltb c q below) ∙ sym (code-some q c b most below e)
+    at (yes below) = let known = code-some q c b most below e in grind (arith, nat_tests)
     at (no above) =
-        ap (λ t. then_some t (Code c)) (le-ltb c q (omega arith))
-        ∙ sym (code-none q b (λ i h f. let same : i ≡ c = character_once i c (omega arith) l (f ∙ sym e) in omega arith))
+        let known = code-none q b (λ i h f. let same : i ≡ c = character_once i c (omega arith) l (f ∙ sym e) in omega arith) in
+        grind (arith, nat_tests)

@@ -1,13 +1,11 @@
 -- Power sums and errors by places: the point of place p in labels of n places is g^(n-1-p).
-use Rattle.std.proofs.Common.{◌≡◌, ℕ, suc, ◌-◌, ◌<◌, List, [], ◌∷◌, length, get_or, sym, ap, ◌∙◌, arith}
+use Rattle.std.proofs.Common.{◌≡◌, ℕ, suc, ◌-◌, ◌<◌, List, length, get_or, sym, ap, ◌∙◌, arith}
 use Prim.Native.Nat.{Fin}
 use Rattle.algebra.specs.Operations.{Operations}
 use Rattle.algebra.specs.Polynomials.{pow, sums}
 use Rattle.algebra.proofs.CodedSums
 use Rattle.algebra.proofs.Rings
 use Rattle.algebra.proofs.Sums
-use Rattle.algebra.proofs.Solver.{reify}
-use Rattle.algebra.proofs.Solver
 use Rattle.arithmetic.specs.Meaning.{Meaning, Lawful, Codes}
 use Rattle.label.specs.Labels.{Different, Label, power_sum}
 use Rattle.label.proofs.Apart
@@ -61,6 +59,6 @@ module _ (m : Meaning) (L : Lawful m) where
           let label : Fin m.size = sums oq n (λ p. oq.prod (entry c lab.codes p) (pow oq (point p) (suc t))) in
           let gone : label ≡ oq.zero = native.Mathlib.Fin.val_path (sym (power_sum_places c lab.codes (suc t)) ∙ lab.zeros (suc t) (omega arith) (omega arith)) in
           native.Mathlib.Fin.val_path {i = v} {j = own} (e ∙ power_sum_places y yc (suc t))
-          ∙ Solver.ring oq L.ring (own ∷ []) {y = oq.sum own (oq.neg oq.zero)} (search reify depth 30) tt
+          ∙ sym (ap (oq.sum own) (Rings.neg-zero oq L.ring) ∙ L.ring.sum_zero own)
           ∙ ap (λ z. oq.sum own (oq.neg z)) (sym gone)
           ∙ sym (Sums.sums_difference oq L.ring n (entry y yc) (entry c lab.codes) (λ p. pow oq (point p) (suc t)))

@@ -19,7 +19,7 @@ loop-t-preserved g c =
     let e : length points - 1 - at ≡ suc t = omega arith in
     let power : get_or points at 0 ≡ pow m.codes m.step (suc t) = c.requires.points at (omega arith) ∙ ap (pow m.codes m.step) e in
     let sum : c.unwrap.result ≡ power_sum m (length row) row (suc t) =
-        (MatchResult-at_ok _ _ c.unwrap.result c.unwrap.ensures c.evaluate.ensures).3
-        ∙ ap (value_at m.codes (length row) (λ k. get_or row k 0)) power
-        ∙ CodedRegisters.value-sums m.size m.codes L.closed L.ring m.step (suc t) (length row) (λ k. get_or row k 0) L.step_in c.requires.codes in
+    (MatchResult-at_ok _ _ c.unwrap.result c.unwrap.ensures c.evaluate.ensures).3
+    ∙ ap (value_at m.codes (length row) (λ k. get_or row k 0)) power
+    ∙ CodedRegisters.value-sums m.size m.codes L.closed L.ring m.step (suc t) (length row) (λ k. get_or row k 0) L.step_in c.requires.codes in
     grind (arith, common_steps)

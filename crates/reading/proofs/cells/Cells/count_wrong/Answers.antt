@@ -1,5 +1,5 @@
 -- What the proof of `Cells::count_wrong` leaves to be shown.
-use Rattle.std.proofs.Common.{◌≡◌, ℕ, Bool, true, false, cond, not, eqb, List, length, get_or, count_by, refl, ap, ◌∙◌, rules, tests, arith}
+use Rattle.std.proofs.Common.{◌≡◌, ℕ, Bool, false, cond, not, eqb, List, length, get_or, count_by, ap, ◌∙◌, rules, tests, arith}
 use Rattle.std.specs.List.{filter, zip}
 use Rattle.std.proofs.lemmas.Iterator.{YieldsList-from_slice, YieldsList-from_zip}
 use Rattle.std.proofs.lemmas.Iterator.Consumers.{YieldsList-at, YieldsList-from_filter, count_from_yields_List}
@@ -13,11 +13,7 @@ use Rattle.reading.proofs.cells.Cells.count_wrong.Goals as goal
 
 -- a place is legible and what a row has there is not its code
 abbrev differs : (ℕ × ℕ) × ℕ → Bool
-differs p = cond (eqb p.0.1 0) (not (eqb p.0.0 p.1)) false
-
-turned : (b c : Bool) → cond b c false ≡ cond (not b) false c
-turned true c = refl
-turned false c = refl
+differs p = cond (not (eqb p.0.1 0)) false (not (eqb p.0.0 p.1))
 
 by_places : (n : ℕ) (codes smudges row : List ℕ) → length codes ≡ n → length smudges ≡ n → length row ≡ n
     → count_by differs (zip (zip codes smudges) row) ≡ count n (wrong codes smudges row)
@@ -29,8 +25,7 @@ by_places n codes smudges row e f g =
     ∙ ap (λ (n : ℕ). count n (λ i. differs (get_or (zip pairs row) i ((0, 0), 0)))) k
     ∙ count_same n _ (wrong codes smudges row) (λ i l.
     ap differs (get_or-zip pairs row i ((0, 0), 0) (omega arith) (omega arith))
-    ∙ ap (λ p. differs (p, get_or row i 0)) (get_or-zip codes smudges i (0, 0) (omega arith) (omega arith))
-    ∙ turned (eqb (get_or smudges i 0) 0) (not (eqb (get_or codes i 0) (get_or row i 0))))
+    ∙ ap (λ p. differs (p, get_or row i 0)) (get_or-zip codes smudges i (0, 0) (omega arith) (omega arith)))
 
 pub returns : goal.returns
 returns g c =
