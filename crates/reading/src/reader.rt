@@ -1,11 +1,10 @@
 // Reading a label.
-ghost use Rattle.std.specs.Prelude.{◌≡◌, ℕ, ◌+◌, ◌-◌, ◌*◌, ◌%◌, ◌^◌, ◌<◌, ◌≤◌, List, length, MatchBool, MatchOption, MatchResult, OnErr, ◌≢◌};
+ghost use Rattle.std.specs.Prelude.{◌≡◌, ℕ, ◌-◌, ◌<◌, ◌≤◌, List, length, MatchBool, MatchOption, MatchResult, OnErr, ◌≢◌};
 ghost use Rattle.algebra.specs.Counts.{count as count_of};
 ghost use Rattle.arithmetic.specs.Meaning.{Codes};
 ghost use Rattle.label.specs.Labels.{Different, door as door_of};
-ghost use Rattle.label.specs.Schemes.{IsScheme};
 ghost use Rattle.reading.specs.Answers.{NoText, NotRead, NotReady, ReadBack, Reads, Ready, WellFormed};
-ghost use Rattle.reading.specs.Working.{Near, Points, PowerSums, Zero, at, marked, wrong};
+ghost use Rattle.reading.specs.Working.{Near, PowerSums, Zero, at, wrong};
 
 use crate::cells::Cells;
 use crate::points::Sums;

@@ -1,9 +1,8 @@
 // The suspect places of a reading: its smudges, and the places where the small multiplier is zero.
-ghost use Rattle.std.specs.Prelude.{◌≡◌, ℕ, suc, ◌+◌, ◌*◌, ◌<◌, ◌≤◌, length, MatchBool, ◌≢◌};
-ghost use Rattle.algebra.specs.Counts.{count as count_of};
+ghost use Rattle.std.specs.Prelude.{◌≡◌, ℕ, ◌+◌, ◌*◌, ◌<◌, ◌≤◌, length, MatchBool, ◌≢◌};
 ghost use Rattle.algebra.specs.Polynomials.{value_at};
 ghost use Rattle.arithmetic.specs.Meaning.{Codes};
-ghost use Rattle.reading.specs.Working.{Folded, Points, Suspects, at, marked, suspect};
+ghost use Rattle.reading.specs.Working.{Folded, Suspects, at, marked, suspect};
 
 use crate::cells::Cells;
 use crate::points::{Sums, fold_in};
