@@ -1,14 +1,7 @@
 // Prints the labels of doors, one a line.
 #![tactic(auto)]
 
-mod answer;
-mod current;
-mod query;
-mod row;
-mod scheme;
-
-use current::Current;
-use query::Query;
+use queries::{Answered, Query, answer};
 use std::io;
 use std::io::{Read, Write};
 use text::Lines;
@@ -18,13 +11,13 @@ fn main(rt: HostRuntime) -> io::Result<()> {
     let mut input = Vec::new(rt.alloc());
     rt.stdin().read_to_end(&mut input)?;
     let mut output = Vec::new(rt.alloc());
-    let mut current = Current::Absent;
+    let mut current = None;
     for line in Lines::new(input.as_slice()) {
         if line.is_empty() {
             continue;
         }
-        if let Some(answer) = current.answer(Query::parse(line)) {
-            writeln!(output, "{answer}")?;
+        if let Some(answered) = answer(&mut current, Query::parse(line)).transpose() {
+            writeln!(output, "{}", Answered(answered))?;
         }
     }
     rt.stdout().write_all(output.as_slice())

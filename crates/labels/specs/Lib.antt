@@ -1,5 +1,0 @@
-pub mod Queries
-pub mod Rows
-pub mod RowTexts
-pub mod Answers
-pub mod Texts

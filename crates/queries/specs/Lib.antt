@@ -1,0 +1,4 @@
+pub mod Queries
+pub mod Labels
+pub mod Answers
+pub mod Texts
