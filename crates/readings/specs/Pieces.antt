@@ -1,7 +1,7 @@
 -- The pieces of a scan.
-use Rattle.std.specs.Prelude.{◌≡◌, ℕ, min, ◌⊎◌, List, [], ◌∷◌, ◌++◌, length, take}
+use Rattle.std.specs.Prelude.{◌≡◌, ℕ, ◌⊎◌, List, [], ◌∷◌, ◌++◌, take}
+use Rattle.arrayvec.specs.ArrayVec.{ArrayVec}
 use Rattle.text.specs.Numerals.{One}
-use Rattle.readings.specs.declared.pieces.Pieces.{Pieces}
 
 -- the bytes are the piece n: a numeral of n, or a question mark (the byte 63), which is 4294967295
 abbrev pub Piece : List ℕ → ℕ → Type 0
@@ -14,6 +14,6 @@ Listed bytes (n ∷ []) = Piece bytes n
 Listed bytes (n ∷ (m ∷ numbers)) =
     (left : List ℕ) × (right : List ℕ) × (bytes ≡ left ++ 32 ∷ right) × Piece left n × Listed right (m ∷ numbers)
 
--- p holds these numbers, or the first 65 where there are more: how many, and the numbers themselves in its first places
-abbrev pub Holds : List ℕ → Pieces → Type 0
-Holds numbers p = (p.places ≡ min (length numbers) 65) × (take p.places p.row ≡ take p.places numbers)
+-- p holds these numbers, or the first 65 where there are more
+abbrev pub Holds : List ℕ → ArrayVec ℕ → Type 0
+Holds numbers p = p.items ≡ take 65 numbers

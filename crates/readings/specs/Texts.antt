@@ -1,21 +1,26 @@
 -- What is printed for an answer.
 use Rattle.std.specs.Prelude.{ℕ, List, ◌++◌, codes, decimal}
-use Rattle.arithmetic.specs.Refusals.{number as field_number, place as field_place}
-use Rattle.label.specs.Refusals.{number, place}
-use Rattle.reading.specs.Refusals.{number as reading_number, place as reading_place}
-use Rattle.readings.specs.declared.answer.Answer.{Answer}
-use Rattle.readings.specs.declared.answer.Answer.TheVariants.{NoField, Refused, Text, Label, Found, Unread, NoQuery}
-use Rattle.readings.specs.RowTexts.{characters_text, codes_text, found_text}
+use Rattle.reading.specs.Refusals.{number, place}
+use Rattle.text.specs.Refusals.{refused_text}
+use Rattle.text.specs.Spacing.{spaced}
+use Rattle.queries.specs.Texts.{label_text, unanswered_text as labels_unanswered_text}
+use Rattle.readings.specs.declared.found.FoundLabel.{FoundLabel}
+use Rattle.readings.specs.declared.reply.Reply.{Reply}
+use Rattle.readings.specs.declared.reply.Reply.TheVariants.{Printed, Found}
+use Rattle.readings.specs.declared.unanswered.Unanswered.{Unanswered}
+use Rattle.readings.specs.declared.unanswered.Unanswered.TheVariants.{Labels, Unread}
 
--- for a refusal of this number and place
-abbrev pub refused_text : ℕ → ℕ → List ℕ
-refused_text n p = codes "refused " ++ (decimal n ++ (codes " " ++ decimal p))
+-- the door, v, s and the codes, with one space between
+abbrev pub found_text : FoundLabel → List ℕ
+found_text t =
+    decimal t.found.door ++ (codes " " ++ (decimal t.found.misread ++ (codes " " ++ (decimal t.found.smudges ++ spaced t.label.items))))
 
-abbrev pub answer_text : Answer → List ℕ
-answer_text (NoField e) = refused_text (field_number e) (field_place e)
-answer_text (Refused e) = refused_text (number e) (place e)
-answer_text (Text t) = characters_text t
-answer_text (Label t) = codes_text t
-answer_text (Found t) = found_text t
-answer_text (Unread e) = refused_text (reading_number e) (reading_place e)
-answer_text NoQuery = codes "no query"
+-- for a label that was printed or read
+abbrev pub reply_text : Reply → List ℕ
+reply_text (Printed l) = label_text l
+reply_text (Found t) = found_text t
+
+-- where a query is not answered
+abbrev pub unanswered_text : Unanswered → List ℕ
+unanswered_text (Labels e) = labels_unanswered_text e
+unanswered_text (Unread e) = refused_text (number e) (place e)

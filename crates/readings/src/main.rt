@@ -1,15 +1,15 @@
 // Prints the labels of doors and reads labels, one a line.
 #![tactic(auto)]
 
-mod answer;
-mod current;
+mod answers;
 mod found;
-mod pieces;
 mod query;
-mod row;
-mod scheme;
+mod reply;
+mod scan;
+mod unanswered;
 
-use current::Current;
+use answers::answer;
+use queries::Answered;
 use query::Query;
 use std::io;
 use std::io::{Read, Write};
@@ -20,14 +20,14 @@ fn main(rt: HostRuntime) -> io::Result<()> {
     let mut input = Vec::new(rt.alloc());
     rt.stdin().read_to_end(&mut input)?;
     let mut output = Vec::new(rt.alloc());
-    let mut current = Current::Absent;
+    let mut current = None;
     let worksheet: &mut [u32] = &mut [0; 1024];
     for line in Lines::new(input.as_slice()) {
         if line.is_empty() {
             continue;
         }
-        if let Some(answer) = current.answer(Query::parse(line), worksheet) {
-            writeln!(output, "{answer}")?;
+        if let Some(answered) = answer(&mut current, Query::parse(line), worksheet).transpose() {
+            writeln!(output, "{}", Answered(answered))?;
         }
     }
     rt.stdout().write_all(output.as_slice())
