@@ -64,11 +64,13 @@ pub struct Modulo<M>(pub PhantomData<M>);
 /// The arithmetic of two elements: 0 and 1 modulo 2, with step 1.
 pub type Bits = Modulo<Two>;
 
+/// The arithmetic of two elements.
 pub const Bits: Bits = Modulo(PhantomData);
 
 /// The residues modulo 37, with step 2.
 pub type Residues = Modulo<ThirtySeven>;
 
+/// The arithmetic of the residues modulo 37.
 pub const Residues: Residues = Modulo(PhantomData);
 
 /// The inverse of a residue; none for 0.
