@@ -13,10 +13,6 @@ delay_same o p s n (suc t) l h = h t (omega arith)
 abbrev pub shifted : Operations ℕ → List ℕ → ℕ → ℕ → ℕ → ℕ
 shifted o row factor x t = o.sum (delay o 1 (λ i. get_or row i 0) t) (o.neg (o.prod factor x))
 
--- one power more
-pub power_next : (o : Operations ℕ) (x g p i : ℕ) → x ≡ o.prod g p → p ≡ pow o g i → x ≡ pow o g (i + 1)
-power_next o x g p i e h = e ∙ ap (o.prod g) h ∙ ap (pow o g) (sym (add-one i))
-
 pub generator_next : (o : Operations ℕ) (g j n power t v : ℕ) (row : List ℕ) → t < n → ((i : ℕ) → i < n → get_or row i 0 ≡ generator o g j i) → power ≡ pow o g (j + 1)
     → v ≡ shifted o row power (get_or row t 0) t → v ≡ generator o g (j + 1) t
 unfolding generator

@@ -1,10 +1,8 @@
 -- The values of a row at the powers of the step are its power sums.
-use Rattle.std.proofs.Common.{◌≡◌, ℕ, ◌+◌, ◌-◌, ◌<◌, ◌≤◌, Bool, true, false, List, length, get_or, ◌≢◌, MatchBool, Ok, Result, sym, ap, ◌∙◌, subst, arith}
+use Rattle.std.proofs.Common.{◌≡◌, ℕ, ◌+◌, ◌-◌, ◌<◌, ◌≤◌, Bool, true, false, List, length, get_or, ◌≢◌, MatchBool, sym, ap, ◌∙◌, arith}
 use Rattle.std.specs.List.{AllWithin, HoldsAt}
 use Rattle.algebra.specs.Polynomials.{pow, value_at}
 use Rattle.algebra.proofs.CodedRegisters
-use Rattle.arithmetic.specs.declared.refusal.Refusal.{Refusal}
-use Rattle.arithmetic.specs.Answers.{OfRow}
 use Rattle.arithmetic.specs.Meaning.{Meaning, Lawful, Codes}
 use Rattle.label.specs.Labels.{power_sum}
 
@@ -27,7 +25,3 @@ module _ (m : Meaning) (L : Lawful m) (row : List ℕ) (codes : Codes m row) whe
       let e = same k (omega arith) in
       let at = is (k + 1) (omega arith) in
       (k + 1, omega arith, omega arith, (λ z. other 0 (omega arith) (value-at_power (get_or higher k 0) (k + 1) (e ∙ at.0) ∙ z)))
-
--- what is answered as the value of a row at the power j is its power sum j
-pub value_is : (m : Meaning) → Lawful m → (row : List ℕ) (x j v : ℕ) (r : Result ℕ Refusal) → OfRow m row x r → r ≡ Ok v → x ≡ pow m.codes m.step j → v ≡ power_sum m (length row) row j
-value_is m L row x j v r h e f = let known : OfRow m row x (Ok v) = subst (OfRow m row x) e h in known.3 ∙ value-at_power m L row known.0 x j f

@@ -21,7 +21,7 @@ pub(crate) fn powers_differ<A: Arithmetic>(arithmetic: &A, n: usize) -> bool
     requires { n ≤ 64 }
     ensures { MatchBool result (Different (A.Arithmetic.meaning arithmetic.now) n) (Different (A.Arithmetic.meaning arithmetic.now) n → ⊥) }
 {
-    // An array, since nothing is allocated; in an ArrayVec the zeros to be written over would have to be pushed one by one.
+    // An array, since nothing is allocated; an ArrayVec made of it and cut to length would be no plainer than its first places.
     let mut powers = [0u32; 64];
     let powers = &mut powers[0..n];
     write_powers(arithmetic, powers);

@@ -105,7 +105,7 @@ fn write_checks<A: Arithmetic>(arithmetic: &A, digits: &[u32], checks: &mut [u32
     requires codes { Codes (A.Arithmetic.meaning arithmetic.now) digits.now }
     ensures { (t : ℕ) → t < length checks.old → slice_index checks.new (length checks.old - 1 - t) ≡ (A.Arithmetic.meaning arithmetic.now).codes.neg (register (A.Arithmetic.meaning arithmetic.now).codes (A.Arithmetic.meaning arithmetic.now).step (length checks.old) (λ p. slice_index digits.now p) (length digits.now) t) }
 {
-    // An array, since nothing is allocated; in an ArrayVec the zeros to be written over would have to be pushed one by one.
+    // An array, since nothing is allocated; an ArrayVec made of it and cut to length would be no plainer than its first places.
     let mut generator = [0u32; 64];
     let generator = &mut generator[0..=checks.len()];
     write_generator(arithmetic, generator);
@@ -173,7 +173,7 @@ impl<A: Arithmetic> Scheme<A> {
             return Err(Refusal::NoText);
         }
         self.check_length(row.len())?;
-        // An array, since nothing is allocated; in an ArrayVec the zeros to be written over would have to be pushed one by one.
+        // An array, since nothing is allocated; an ArrayVec made of it and cut to length would be no plainer than its first places.
         let mut codes = [0u32; 64];
         let codes = &mut codes[0..self.n];
         self.write_label(door, codes);

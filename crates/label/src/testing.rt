@@ -13,7 +13,7 @@ fn sums_vanish<A: Arithmetic>(arithmetic: &A, row: &[u32], r: usize) -> bool
     ensures { MatchBool result ((j : ℕ) → 1 ≤ j → j ≤ r → power_sum (A.Arithmetic.meaning arithmetic.now) (length row.now) row.now j ≡ (A.Arithmetic.meaning arithmetic.now).codes.zero) ((j : ℕ) × (1 ≤ j) × (j ≤ r) × (power_sum (A.Arithmetic.meaning arithmetic.now) (length row.now) row.now j ≢ (A.Arithmetic.meaning arithmetic.now).codes.zero)) }
 {
     let zero = arithmetic.zero();
-    // An array, since nothing is allocated; in an ArrayVec the zeros to be written over would have to be pushed one by one.
+    // An array, since nothing is allocated; an ArrayVec made of it and cut to length would be no plainer than its first places.
     let mut powers = [0u32; 64];
     let powers = &mut powers[0..=r];
     write_powers(arithmetic, powers);
