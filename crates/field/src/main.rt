@@ -10,7 +10,7 @@ use answer::Answer;
 use query::Query;
 use std::io;
 use std::io::{Read, Write};
-use text::Lines;
+use text::{Answered, Lines};
 
 /// Reads the standard input to its end, and prints the answer to each line that is not empty.
 fn main(rt: HostRuntime) -> io::Result<()> {
@@ -18,10 +18,7 @@ fn main(rt: HostRuntime) -> io::Result<()> {
     rt.stdin().read_to_end(&mut input)?;
     let mut output = Vec::new(rt.alloc());
     for line in Lines::new(input.as_slice()).filter(|line| !line.is_empty()) {
-        match Answer::new(Query::parse(line)) {
-            Ok(answer) => writeln!(output, "{answer}")?,
-            Err(unanswered) => writeln!(output, "{unanswered}")?,
-        }
+        writeln!(output, "{}", Answered(Answer::new(Query::parse(line))))?;
     }
     rt.stdout().write_all(output.as_slice())
 }

@@ -1,10 +1,10 @@
 // Prints the labels of doors, one a line.
 #![tactic(auto)]
 
-use queries::{Answered, Query, answer};
+use queries::{Query, answer};
 use std::io;
 use std::io::{Read, Write};
-use text::Lines;
+use text::{Answered, Lines};
 
 /// Reads the standard input to its end, and prints what is answered to each line that is not empty.
 fn main(rt: HostRuntime) -> io::Result<()> {
@@ -12,10 +12,7 @@ fn main(rt: HostRuntime) -> io::Result<()> {
     rt.stdin().read_to_end(&mut input)?;
     let mut output = Vec::new(rt.alloc());
     let mut current = None;
-    for line in Lines::new(input.as_slice()) {
-        if line.is_empty() {
-            continue;
-        }
+    for line in Lines::new(input.as_slice()).filter(|line| !line.is_empty()) {
         if let Some(answered) = answer(&mut current, Query::parse(line)).transpose() {
             writeln!(output, "{}", Answered(answered))?;
         }

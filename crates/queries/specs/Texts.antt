@@ -1,5 +1,5 @@
 -- What is printed for an answer.
-use Rattle.std.specs.Prelude.{ℕ, List, [], ◌∷◌, ◌++◌, Option, Result, Ok, Err, codes, decimal}
+use Rattle.std.specs.Prelude.{ℕ, List, [], ◌∷◌, ◌++◌, codes, decimal}
 use Rattle.arithmetic.specs.Refusals.{number as field_number, place as field_place}
 use Rattle.label.specs.Refusals.{number, place}
 use Rattle.text.specs.Refusals.{refused_text}
@@ -24,8 +24,3 @@ abbrev pub unanswered_text : Unanswered → List ℕ
 unanswered_text (NoField e) = refused_text (field_number e) (field_place e)
 unanswered_text (Refused e) = refused_text (number e) (place e)
 unanswered_text NoQuery = codes "no query"
-
--- for an answer: what is printed for what was asked for, or where it is not answered
-abbrev pub answer_text : {T E : Type 0} → (T → Option (List ℕ)) → (E → Option (List ℕ)) → Result T E → Option (List ℕ)
-answer_text of_answer of_unanswered (Ok t) = of_answer t
-answer_text of_answer of_unanswered (Err e) = of_unanswered e

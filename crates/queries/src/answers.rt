@@ -1,12 +1,10 @@
 // The lines answered in turn, by the scheme that holds.
 ghost use Rattle.queries.specs.Answers.{Answers, OfCurrentDoor};
-ghost use Rattle.queries.specs.Texts.{answer_text};
 
 use crate::laid::{Laid, lay_out_binary, lay_out_residue};
 use crate::printed::Label;
 use crate::query::Query;
 use crate::unanswered::Unanswered;
-use std::fmt;
 
 /// What is answered to a door, by the scheme that holds.
 fn of_current(current: &Option<Laid>, door: u32) -> Result<Label, Unanswered>
@@ -37,21 +35,5 @@ pub fn answer(current: &mut Option<Laid>, query: Option<Query>) -> Result<Option
             Ok(None)
         }
         Query::Door(door) => Ok(Some(of_current(current, door)?)),
-    }
-}
-
-/// What was asked for, or why it is not answered.
-#[derive(Drop)]
-pub struct Answered<T, E>(pub Result<T, E>);
-
-impl<T: fmt::Display, E: fmt::Display> fmt::Display for Answered<T, E> {
-    // What `{}` writes.
-    ghost output = { λ a. answer_text T.output E.output a.0 };
-
-    fn fmt<W: fmt::Write>(&self, f: &mut fmt::Formatter<W>) -> fmt::Result {
-        match &self.0 {
-            Ok(answer) => write!(f, "{answer}"),
-            Err(unanswered) => write!(f, "{unanswered}"),
-        }
     }
 }

@@ -7,7 +7,7 @@ mod printed;
 mod query;
 mod unanswered;
 
-pub use answers::{Answered, answer};
+pub use answers::answer;
 pub use laid::Laid;
 pub use printed::Label;
 pub use query::Query;

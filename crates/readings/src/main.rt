@@ -9,11 +9,10 @@ mod scan;
 mod unanswered;
 
 use answers::answer;
-use queries::Answered;
 use query::Query;
 use std::io;
 use std::io::{Read, Write};
-use text::Lines;
+use text::{Answered, Lines};
 
 /// Reads the standard input to its end, and prints what is answered to each line that is not empty.
 fn main(rt: HostRuntime) -> io::Result<()> {
@@ -22,10 +21,7 @@ fn main(rt: HostRuntime) -> io::Result<()> {
     let mut output = Vec::new(rt.alloc());
     let mut current = None;
     let worksheet: &mut [u32] = &mut [0; 1024];
-    for line in Lines::new(input.as_slice()) {
-        if line.is_empty() {
-            continue;
-        }
+    for line in Lines::new(input.as_slice()).filter(|line| !line.is_empty()) {
         if let Some(answered) = answer(&mut current, Query::parse(line), worksheet).transpose() {
             writeln!(output, "{}", Answered(answered))?;
         }

@@ -2,3 +2,4 @@ pub mod Numerals
 pub mod Parts
 pub mod Spacing
 pub mod Refusals
+pub mod Answered

@@ -1,8 +1,9 @@
-// Reading bytes: lines, parts between separators, and decimal numbers; and writing numbers in a row, and refusals.
+// Reading bytes: lines, parts between separators, and decimal numbers; and writing numbers in a row, refusals and answers.
 #![tactic(auto)]
 
 ghost use Rattle.std.specs.Prelude.{◌≡◌, ℕ, ◌<◌, length, Some, MatchOption};
 ghost use Rattle.std.specs.Option.{SomeIff};
+ghost use Rattle.text.specs.Answered.{answered_text};
 ghost use Rattle.text.specs.Numerals.{Numeral, Three, Two, value};
 ghost use Rattle.text.specs.Parts.{NextLine, Parts, Without};
 ghost use Rattle.text.specs.Refusals.{refused_text};
@@ -82,6 +83,22 @@ impl fmt::Display for Refused {
     fn fmt<W: fmt::Write>(&self, f: &mut fmt::Formatter<W>) -> fmt::Result {
         let Refused(number, place) = *self;
         write!(f, "refused {number} {place}")
+    }
+}
+
+/// What was asked for, or why it is not answered.
+#[derive(Drop)]
+pub struct Answered<T, E>(pub Result<T, E>);
+
+impl<T: fmt::Display, E: fmt::Display> fmt::Display for Answered<T, E> {
+    // What `{}` writes.
+    ghost output = { λ a. answered_text T.output E.output a.0 };
+
+    fn fmt<W: fmt::Write>(&self, f: &mut fmt::Formatter<W>) -> fmt::Result {
+        match &self.0 {
+            Ok(answer) => write!(f, "{answer}"),
+            Err(unanswered) => write!(f, "{unanswered}"),
+        }
     }
 }
 
