@@ -33,8 +33,8 @@ impl<'a, A: Arithmetic> Sums<'a, A> {
         ensures codes { Codes (A.Arithmetic.meaning self.now.arithmetic.now) folded.new }
     {
         folded.copy_from_slice(self.sums);
-        for (p, point) in self.points.iter().enumerate() {
-            if smudges[p] != 0 {
+        for (point, smudge) in self.points.iter().zip(smudges) {
+            if *smudge != 0 {
                 fold_in(self.arithmetic, *point, folded);
             }
         }
