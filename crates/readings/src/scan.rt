@@ -8,10 +8,9 @@ use arrayvec::ArrayVec;
 fn piece(bytes: &[u8]) -> Option<u32>
     ensures { MatchOption result ((n : ℕ) → Piece bytes.now n → ⊥) (Piece bytes.now) }
 {
-    if bytes == b"?".as_slice() {
-        Some(4294967295)
-    } else {
-        text::number(bytes)
+    match bytes {
+        b"?" => Some(u32::MAX),
+        _ => text::number(bytes),
     }
 }
 
