@@ -24,6 +24,7 @@ fn write_digits(q: u32, door: u32, row: &mut [u32])
     row.reverse();
 }
 
+// That rows hold codes stays in the contracts: a struct of a row and its arithmetic would be made anew for each part of a row.
 /// Shifts the polynomial in a row up by one place, and takes `factor` times that in `other` from it. Its top term is lost.
 fn shift_less<A: Arithmetic>(arithmetic: &A, row: &mut [u32], factor: u32, other: &[u32])
     requires long { length row.old ≤ length other.now }
@@ -65,6 +66,7 @@ fn write_generator<A: Arithmetic>(arithmetic: &A, row: &mut [u32])
     let mut power = arithmetic.one();
     row.fill(arithmetic.zero());
     row[0] = power;
+    // The rounds are counted, and no place by their number.
     for _ in 0..row.len() - 1 {
         power = arithmetic.product(step, power).unwrap();
         multiply(arithmetic, row, power);
@@ -114,6 +116,7 @@ fn write_checks<A: Arithmetic>(arithmetic: &A, digits: &[u32], checks: &mut [u32
     checks.reverse();
 }
 
+// No From: a code is a plain number, and so are the codes of all arithmetics.
 /// The character of a code below 64.
 fn character(code: u32) -> u8
     ensures { result ≡ character_of code }

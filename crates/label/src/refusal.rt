@@ -20,6 +20,7 @@ pub enum Refusal {
 }
 
 impl Refusal {
+    // A match, of this enum's own cases: the numbers and places are the product's, and no derive or trait has them.
     /// The refusal's number.
     pub fn number(self) -> u32
         ensures { result ≡ refusal_number self }

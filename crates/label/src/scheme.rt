@@ -62,6 +62,7 @@ impl<A: Arithmetic> Scheme<A> {
         ensures laid { MatchResult result (λ s. (s.arithmetic ≡ arithmetic) × (s.n ≡ n) × (s.k ≡ k) × IsScheme (A.Arithmetic.meaning arithmetic) n k s.doors) (λ e. (e.arithmetic ≡ arithmetic) × NoScheme (A.Arithmetic.meaning arithmetic) n k e.refusal) }
         ensures labels { OnOk result (Apart (A.Arithmetic.meaning arithmetic) n (n - k) × EachDoor (A.Arithmetic.meaning arithmetic) n k) }
     {
+        // No map with map_err: both sides take the arithmetic.
         match doors_of(&arithmetic, n, k) {
             Ok(doors) => Ok(Scheme {
                 arithmetic,

@@ -10,6 +10,7 @@ use crate::unanswered::Unanswered;
 fn of_current(current: &Option<Laid>, door: u32) -> Result<Label, Unanswered>
     ensures { OfCurrentDoor current.now door result }
 {
+    // Each kind of scheme has its arm, here and for readings: a closure cannot be handed in that takes both types.
     match current {
         None => Err(Unanswered::NoQuery),
         Some(Laid::OverField(scheme)) => Label::of_door(scheme, door),

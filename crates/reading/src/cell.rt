@@ -3,6 +3,7 @@ ghost use Rattle.std.specs.Prelude.{ℕ, ◌<◌, Some};
 ghost use Rattle.reading.specs.Readings.{CodeBelow};
 ghost use Rattle.reading.specs.Working.{Taken};
 
+// An enum of its own, not an Option of a code: a reading gives an Option of it, whose `None` is neither code nor smudge.
 /// What a reading has at a place.
 #[derive(Clone, Copy)]
 pub enum Cell {

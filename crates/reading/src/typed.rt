@@ -10,6 +10,7 @@ use crate::reading::Reading;
 #[derive(Clone, Copy)]
 pub struct Typed<'a>(pub &'a [u8]);
 
+// No TryFrom: a code is a plain number, for which the conversion from a byte is the library's own.
 /// The code whose character is a byte.
 fn code_of(byte: u8) -> Option<u32>
     ensures { MatchOption result ((c : ℕ) → c < 64 → character c ≢ byte) (λ c. (c < 64) × (character c ≡ byte)) }

@@ -19,6 +19,7 @@ fn of_current<R: Reading>(
     ensures answers { OfCurrentReading current.now (R.Reading.shown reading.now) (length worksheet.old) result }
     ensures zero { Zero worksheet.old → Zero worksheet.new }
 {
+    // Each kind of scheme has its arm, here and for doors: a closure cannot be handed in that takes both types.
     match current {
         None => Err(Unanswered::Labels(queries::Unanswered::NoQuery)),
         Some(Laid::OverField(scheme)) => Ok(FoundLabel::new(scheme, reading, worksheet)?),

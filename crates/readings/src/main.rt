@@ -20,6 +20,7 @@ fn main(rt: HostRuntime) -> io::Result<()> {
     rt.stdin().read_to_end(&mut input)?;
     let mut output = Vec::new(rt.alloc());
     let mut current = None;
+    // An array: a worksheet is of a stated size.
     let worksheet: &mut [u32] = &mut [0; 1024];
     for line in Lines::new(input.as_slice()).filter(|line| !line.is_empty()) {
         if let Some(answered) = answer(&mut current, Query::parse(line), worksheet).transpose() {

@@ -136,6 +136,7 @@ impl BinaryField {
             return Err(Refusal::InverseOfZero);
         }
         let m = self.degree as usize;
+        // Arrays, since nothing is allocated, each as long as the largest degree asks for.
         let mut big = [0u32; 32];
         let mut big_multiplier = [0u32; 16];
         let mut small = [0u32; 31];
