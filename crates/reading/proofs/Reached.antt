@@ -104,8 +104,8 @@ module _ (m : Meaning) (n : ℕ) (s : Shown) (worksheet len : ℕ) (cells marks 
   well_formed = record { ready = w.ready; cells = each_cell }
 
   -- it is refused by 16 where no label is near its cells
-  pub not_read : (k doors : ℕ) → ((label : List ℕ) → Near m (n - k) cells marks label → ⊥) → NotRead m n k doors s worksheet len NoLabel
-  not_read k doors none = record {
+  pub not_read : (k : ℕ) → ((label : List ℕ) → Near m (n - k) cells marks label → ⊥) → NotRead m n k s worksheet len NoLabel
+  not_read k none = record {
     before = record {
       no_text = λ t. absurd (w.ready.readable t);
       short = λ t l. absurd (omega (arith, w.ready.enough));

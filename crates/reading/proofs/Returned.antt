@@ -52,8 +52,8 @@ shown_cells : (m : Meaning) (n : ℕ) (s : Shown) (label : List ℕ) → length 
 unfolding Shows
 shown_cells m n s label e h p l none = let shown = h p (omega (arith, e)) in cc
 
-module _ (m : Meaning) (n k doors : ℕ) (s : Shown) (worksheet len : ℕ) (r : Result Found Refusal) (row : List ℕ)
-    (h : MatchResult r (λ f. WellFormed m.size n s worksheet len × Reads m n k s row f) (NotRead m n k doors s worksheet len)) where
+module _ (m : Meaning) (n k : ℕ) (s : Shown) (worksheet len : ℕ) (r : Result Found Refusal) (row : List ℕ)
+    (h : MatchResult r (λ f. WellFormed m.size n s worksheet len × Reads m n k s row f) (NotRead m n k s worksheet len)) where
   -- a reading that can be taken, and shows the label of a door
   returned :
       (d : ℕ) (label : List ℕ) → LabelOf m n k d label → (NoText m.size s → ⊥) → s.pieces ≡ length label → Shows m.size s label → 1024 ≤ worksheet → len ≡ n
@@ -78,7 +78,7 @@ module _ (m : Meaning) (n k doors : ℕ) (s : Shown) (worksheet len : ℕ) (r : 
       reach : InReach m.size n (n - k) s label
       reach = omega (arith, none_smudged, none-wrong)
 
-      back : (r : Result Found Refusal) → MatchResult r (λ f. WellFormed m.size n s worksheet len × Reads m n k s row f) (NotRead m n k doors s worksheet len)
+      back : (r : Result Found Refusal) → MatchResult r (λ f. WellFormed m.size n s worksheet len × Reads m n k s row f) (NotRead m n k s worksheet len)
           → (r ≡ Ok (clean d)) × (row ≡ label)
       back (Err e) h = absurd ((h.none formed).1 label of.label reach)
       back (Ok f) h =

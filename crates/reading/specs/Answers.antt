@@ -50,7 +50,7 @@ pub record NotReady (q n : ℕ) (s : Shown) (worksheet row : ℕ) (e : Refusal) 
   pub other_count : (NoText q s → ⊥) → 1024 ≤ worksheet → row ≡ n → (s.pieces ≢ n) → Refused e 14 0
 
 -- Why a reading is refused: as above, then 15 at the first place without a cell, then 16 where no label is within reach.
-pub record NotRead (m : Meaning) (n k doors : ℕ) (s : Shown) (worksheet row : ℕ) (e : Refusal) : Type 0 where
+pub record NotRead (m : Meaning) (n k : ℕ) (s : Shown) (worksheet row : ℕ) (e : Refusal) : Type 0 where
   pub before : NotReady m.size n s worksheet row e
   pub no_cell : Ready m.size n s worksheet row → (p : ℕ) → p < n → FirstWithout m.size s p → Refused e 15 p
   pub none : WellFormed m.size n s worksheet row → Refused e 16 0 × NoneInReach m n (n - k) s

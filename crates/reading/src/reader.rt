@@ -131,7 +131,7 @@ fn read_by<A: Arithmetic, R: Reading>(
     worksheet: &mut [u32],
     row: &mut [u32],
 ) -> Result<Found, Refusal>
-    ensures answers { MatchResult result (λ f. WellFormed (A.Arithmetic.meaning scheme.now.arithmetic).size scheme.now.n (R.Reading.shown reading.now) (length worksheet.old) (length row.old) × Reads (A.Arithmetic.meaning scheme.now.arithmetic) scheme.now.n scheme.now.k (R.Reading.shown reading.now) row.new f) (NotRead (A.Arithmetic.meaning scheme.now.arithmetic) scheme.now.n scheme.now.k scheme.now.doors (R.Reading.shown reading.now) (length worksheet.old) (length row.old)) }
+    ensures answers { MatchResult result (λ f. WellFormed (A.Arithmetic.meaning scheme.now.arithmetic).size scheme.now.n (R.Reading.shown reading.now) (length worksheet.old) (length row.old) × Reads (A.Arithmetic.meaning scheme.now.arithmetic) scheme.now.n scheme.now.k (R.Reading.shown reading.now) row.new f) (NotRead (A.Arithmetic.meaning scheme.now.arithmetic) scheme.now.n scheme.now.k (R.Reading.shown reading.now) (length worksheet.old) (length row.old)) }
     ensures unchanged { OnErr result (row.new ≡ row.old) }
 {
     take(scheme, reading, worksheet.len(), row.len())?;
@@ -162,7 +162,7 @@ pub fn read<A: Arithmetic, R: Reading>(
     worksheet: &mut [u32],
     row: &mut [u32],
 ) -> Result<Found, Refusal>
-    ensures answers { MatchResult result (λ f. WellFormed (A.Arithmetic.meaning scheme.now.arithmetic).size scheme.now.n (R.Reading.shown reading.now) (length worksheet.old) (length row.old) × Reads (A.Arithmetic.meaning scheme.now.arithmetic) scheme.now.n scheme.now.k (R.Reading.shown reading.now) row.new f) (NotRead (A.Arithmetic.meaning scheme.now.arithmetic) scheme.now.n scheme.now.k scheme.now.doors (R.Reading.shown reading.now) (length worksheet.old) (length row.old)) }
+    ensures answers { MatchResult result (λ f. WellFormed (A.Arithmetic.meaning scheme.now.arithmetic).size scheme.now.n (R.Reading.shown reading.now) (length worksheet.old) (length row.old) × Reads (A.Arithmetic.meaning scheme.now.arithmetic) scheme.now.n scheme.now.k (R.Reading.shown reading.now) row.new f) (NotRead (A.Arithmetic.meaning scheme.now.arithmetic) scheme.now.n scheme.now.k (R.Reading.shown reading.now) (length worksheet.old) (length row.old)) }
     ensures unchanged { OnErr result (row.new ≡ row.old) }
     ensures zero { Zero worksheet.new }
     ensures printed { ReadBack (A.Arithmetic.meaning scheme.now.arithmetic) scheme.now.n scheme.now.k (R.Reading.shown reading.now) (length worksheet.old) (length row.old) result row.new }

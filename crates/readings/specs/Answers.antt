@@ -21,15 +21,15 @@ abbrev pub FoundBy : Meaning → ℕ → ℕ → Shown → ℕ → FoundLabel �
 FoundBy m n k s worksheet t = WellFormed m.size n s worksheet n × Reads m n k s t.label.items t.found
 
 -- to a reading that shows s, with a worksheet of this length: the label within reach with its door, v and s, or why it is not read
-abbrev pub OfReading : Meaning → ℕ → ℕ → ℕ → Shown → ℕ → Result FoundLabel Unanswered → Type 0
-OfReading m n k doors s worksheet (Ok t) = FoundBy m n k s worksheet t
-OfReading m n k doors s worksheet (Err (Labels e)) = ⊥
-OfReading m n k doors s worksheet (Err (Unread e)) = NotRead m n k doors s worksheet n e
+abbrev pub OfReading : Meaning → ℕ → ℕ → Shown → ℕ → Result FoundLabel Unanswered → Type 0
+OfReading m n k s worksheet (Ok t) = FoundBy m n k s worksheet t
+OfReading m n k s worksheet (Err (Labels e)) = ⊥
+OfReading m n k s worksheet (Err (Unread e)) = NotRead m n k s worksheet n e
 
 -- to a reading, where this scheme holds
 abbrev pub OfCurrentReading : Option Laid → Shown → ℕ → Result FoundLabel Unanswered → Type 0
 OfCurrentReading current s worksheet r =
-    OfCurrent (Err (Labels NoQuery)) current (λ m n k doors. OfReading m n k doors s worksheet) r
+    OfCurrent (Err (Labels NoQuery)) current (λ m n k doors. OfReading m n k s worksheet) r
 
 -- an answer is that of such a result of a reading
 abbrev pub IsFound : (Result FoundLabel Unanswered → Type 0) → Result (Option Reply) Unanswered → Type 0

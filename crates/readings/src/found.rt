@@ -29,7 +29,7 @@ impl FoundLabel {
         reading: &R,
         worksheet: &mut [u32],
     ) -> Result<FoundLabel, Refusal>
-        ensures answers { MatchResult result (FoundBy (A.Arithmetic.meaning scheme.now.arithmetic) scheme.now.n scheme.now.k (R.Reading.shown reading.now) (length worksheet.old)) (NotRead (A.Arithmetic.meaning scheme.now.arithmetic) scheme.now.n scheme.now.k scheme.now.doors (R.Reading.shown reading.now) (length worksheet.old) scheme.now.n) }
+        ensures answers { MatchResult result (FoundBy (A.Arithmetic.meaning scheme.now.arithmetic) scheme.now.n scheme.now.k (R.Reading.shown reading.now) (length worksheet.old)) (NotRead (A.Arithmetic.meaning scheme.now.arithmetic) scheme.now.n scheme.now.k (R.Reading.shown reading.now) (length worksheet.old) scheme.now.n) }
         ensures zero { Zero worksheet.new }
     {
         let mut label = ArrayVec::from([0; 64]);

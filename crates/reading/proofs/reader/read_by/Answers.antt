@@ -22,7 +22,7 @@ returns-in_err-misread-clause-answers g c =
     let refusal = c.in_err-misread.ensures.value ∙ ap (λ o. ok_or o NoLabel) c.in_err-misread.ensures.ok_part in
     let refused : c.from_residual-in_err-misread.result ≡ Err NoLabel = cc (p.1, p.2, refusal) in
     rw refused (
-    not_read _ _ _ _ _ _ _ known _ _
+    not_read _ _ _ _ _ _ _ known _
     (λ label near. none label (subst (λ s. Near (meaning s.arithmetic) (s.n - s.k) cells.codes.now cells.smudges.now label) (sym taken.0) near))
     )
 
