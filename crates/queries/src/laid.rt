@@ -22,6 +22,7 @@ pub(crate) fn lay_out_binary(f: u32, n: u32, k: u32) -> Result<Scheme<BinaryFiel
     Ok(Scheme::lay_out(BinaryField::open(f)?, n, k)?)
 }
 
+// Apart from the function above: it takes other numbers, gives another type, and opens no field.
 /// The scheme over the residues modulo 37. Refused where no scheme is laid out.
 pub(crate) fn lay_out_residue(n: u32, k: u32) -> Result<Scheme<Residues>, Unanswered>
     ensures { MatchResult result (λ s. (s.n ≡ n) × (s.k ≡ k)) (NoResidue n k) }

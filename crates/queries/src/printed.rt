@@ -64,6 +64,7 @@ impl fmt::Display for Label {
         match self {
             Label::Text(text) => write!(f, "{text}"),
             Label::Codes(codes) => {
+                // An empty row prints nothing, and is not an error that `?` would give.
                 let Some((first, rest)) = codes.as_slice().split_first() else {
                     return Ok(());
                 };

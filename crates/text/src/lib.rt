@@ -17,6 +17,7 @@ use std::fmt;
 pub fn number(bytes: &[u8]) -> Option<u32>
     ensures { SomeIff result (Numeral bytes.now) (value bytes.now) }
 {
+    // Not the library's `parse`, which takes a sign and any number of zeros.
     if bytes.is_empty() || bytes.len() > 10 {
         return None;
     }

@@ -86,6 +86,7 @@ fn readings_are_refused(rt: HostRuntime) -> Result<(), Fail> {
     refused(&rt, &Scan(&[1, 2, 6, 7, 7]), 14, 0)
 }
 
+// Worksheets and rows are arrays of stated lengths, here too long or too short.
 #[test]
 fn worksheets_and_rows_are_refused(rt: HostRuntime) -> Result<(), Fail> {
     let reading = Typed(b"12x7");
