@@ -24,6 +24,7 @@ fn terms<A: Arithmetic>(arithmetic: &A, row: &[u32]) -> usize
     row.iter().rposition(|a| *a != zero).map_or(0, |i| i + 1)
 }
 
+// Six parameters, of which no two travel together: the rows are of one pair each, the numbers of one step.
 /// Takes c z^d times the first `n` terms of the polynomial in `small` from that in `big`.
 fn subtract<A: Arithmetic>(
     arithmetic: &A,
@@ -115,7 +116,7 @@ impl Progress {
     }
 }
 
-// A struct of the four rows would be no plainer: each function would reborrow them and promise that it keeps the same four.
+// A struct of the four rows, here and below, would be no plainer: each function would reborrow them and promise to keep them.
 /// One iteration on the pairs in the rows.
 fn iterate_once<A: Arithmetic>(
     arithmetic: &A,
@@ -189,6 +190,7 @@ fn run<A: Arithmetic>(
         big: big.len(),
         small: terms(arithmetic, small),
     };
+    // No place is counted: the loop goes on while a degree exceeds another.
     while progress.exceeds(stop) {
         progress = iterate_once(
             arithmetic,
@@ -242,7 +244,7 @@ pub fn iterate<A: Arithmetic>(
     ensures answers { MatchResult result (λ k. Codes (A.Arithmetic.meaning arithmetic.now) small.old × Fitting start stop big.old big_multiplier.old small.old small_multiplier.old × Iterated (A.Arithmetic.meaning arithmetic.now) start stop (polynomial_of small.old) k big.new big_multiplier.new small.new small_multiplier.new) (NotIterated (A.Arithmetic.meaning arithmetic.now) start stop big.old big_multiplier.old small.old small_multiplier.old) }
     ensures unchanged { OnErr result ((big.new ≡ big.old) × (big_multiplier.new ≡ big_multiplier.old) × (small.new ≡ small.old) × (small_multiplier.new ≡ small_multiplier.old)) }
 {
-    // The project's rule: the iteration is one function over slices of codes, so the rows are handed in one by one.
+    // The rows are handed in one by one, as docs/DECISIONS.md says of the form of the iteration.
     if !all_codes(arithmetic, small) {
         return Err(Refusal::NotACode);
     }

@@ -14,10 +14,8 @@ pub(crate) fn remainder(a: u64, b: u64) -> u64
     requires { 0 < b }
     ensures { result ≡ remainder_of a b }
 {
-    let Some(n) = degree(b) else {
-        return a;
-    };
-    // The project's rule: the remainder is that of what is left by the same divisor, so the function calls itself.
+    let n = degree(b).unwrap();
+    // The function calls itself on what is left, as docs/DECISIONS.md says of its form.
     match degree(a) {
         Some(m) if m >= n => remainder(a ^ (b << (m - n)), b),
         _ => a,
@@ -29,7 +27,7 @@ pub(crate) fn product(a: u32, b: u32) -> u64
     ensures { result ≡ times a b }
 {
     let mut sum: u64 = 0;
-    // A filter with a fold misses the bar of speed: with it, readings over binary fields took more than twice the time.
+    // A filter with a fold is too slow: with it, readings over binary fields took more than twice the time.
     for i in 0..32u32 {
         if (b >> i) & 1 == 1 {
             sum ^= (a as u64) << i;
@@ -45,7 +43,7 @@ pub(crate) fn has_factor(f: u32, m: u32) -> bool
     requires { m < 32 }
     ensures { MatchBool result ((x : ℕ) × Factor f m x) (NoFactor f m) }
 {
-    // The project's rule: the search is two loops, over degree and pattern, and a factor leaves both at once.
+    // Two loops, which a factor leaves at once, as docs/DECISIONS.md says of the form of this search.
     let mut found = false;
     'search: for degree in 1..m {
         for pattern in 0..(1u32 << degree) {

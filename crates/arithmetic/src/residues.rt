@@ -49,7 +49,6 @@ impl Modulus for ThirtySeven {
 
     ghost SIZE = { 37 };
 
-    /// The powers of 2 are all the residues modulo 37 but 0.
     const STEP: u32 = 2;
 
     ghost STEP = { 2 };

@@ -12,6 +12,7 @@ use std::io;
 use std::io::{Read, Write};
 use text::{Answered, Lines};
 
+// Like the other programs' main but for what answers: a function of all three would take that as a closure, and be no shorter.
 /// Reads the standard input to its end, and prints the answer to each line that is not empty.
 fn main(rt: HostRuntime) -> io::Result<()> {
     let mut input = Vec::new(rt.alloc());

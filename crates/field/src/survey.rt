@@ -33,7 +33,7 @@ impl Survey {
         let size = field.size();
         let mut most = 0;
         let mut total = 0;
-        // The loop goes through codes, not places; a chain would be no plainer, with its two sums and its way out.
+        // The loop goes through codes, not places; a chain would be no plainer, with a largest, a sum and an early return.
         for a in 1..size {
             let inverted = field.invert(a).unwrap();
             let product = field.product(a, inverted.inverse).unwrap();

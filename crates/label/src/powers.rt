@@ -8,6 +8,7 @@ use arithmetic::{Arithmetic, write_powers};
 fn all_different(row: &[u32]) -> bool
     ensures { MatchBool result ((i j : ℕ) → i < j → j < length row.now → slice_index row.now i ≢ slice_index row.now j) ((i : ℕ) × (j : ℕ) × (i < j) × (j < length row.now) × (slice_index row.now i ≡ slice_index row.now j)) }
 {
+    // As a chain by `all` it got no proof: what the chain answers stays open, though its closure is proved.
     for (j, x) in row.iter().enumerate() {
         if row[0..j].contains(x) {
             return false;

@@ -33,7 +33,7 @@ pub struct NotLaidOut<A: Arithmetic> {
 fn number_of_doors(q: u32, k: u32) -> Option<u64>
     ensures { MatchOption result (2 ^ 32 < q ^ k) (λ d. (d ≡ q ^ k) × (d ≤ 2 ^ 32)) }
 {
-    (q as u64)
+    u64::from(q)
         .checked_pow(k)
         .filter(|doors| *doors <= MOST_DOORS)
 }
@@ -44,7 +44,7 @@ fn number_of_doors(q: u32, k: u32) -> Option<u64>
 fn doors_of<A: Arithmetic>(arithmetic: &A, n: u32, k: u32) -> Result<u64, Refusal>
     ensures { MatchResult result (IsScheme (A.Arithmetic.meaning arithmetic.now) n k) (NoScheme (A.Arithmetic.meaning arithmetic.now) n k) }
 {
-    if n < 2 || n > 64 || k < 1 || k >= n {
+    if !(2..=64).contains(&n) || !(1..n).contains(&k) {
         return Err(Refusal::WrongCounts);
     }
     if !powers_differ(arithmetic, n as usize) {
@@ -116,7 +116,7 @@ impl<A: Arithmetic> Scheme<A> {
     pub(crate) fn check_door(&self, door: u32) -> Result<(), Refusal>
         ensures { MatchResult result (λ _. door < self.now.doors) (λ e. (self.now.doors ≤ door) × Refused e 8) }
     {
-        if (door as u64) < self.doors {
+        if u64::from(door) < self.doors {
             Ok(())
         } else {
             Err(Refusal::NoSuchDoor)

@@ -11,10 +11,9 @@ fn of_current(current: &Option<Laid>, door: u32) -> Result<Label, Unanswered>
     ensures { OfCurrentDoor current.now door result }
 {
     // Each kind of scheme has its arm, here and for readings: a closure cannot be handed in that takes both types.
-    match current {
-        None => Err(Unanswered::NoQuery),
-        Some(Laid::OverField(scheme)) => Label::of_door(scheme, door),
-        Some(Laid::OverResidues(scheme)) => Label::of_door(scheme, door),
+    match current.as_ref().ok_or(Unanswered::NoQuery)? {
+        Laid::OverField(scheme) => Label::of_door(scheme, door),
+        Laid::OverResidues(scheme) => Label::of_door(scheme, door),
     }
 }
 

@@ -11,8 +11,7 @@ use crate::refusal::Refusal;
 use arithmetic::Arithmetic;
 use label::Scheme;
 
-/// The cells of a reading of a scheme's labels: a row with the code of each cell, 0 for a smudge, a row that marks the smudges,
-/// and their number.
+/// The cells of a reading of a scheme's labels: a row of codes, a row that marks the smudges, and their number.
 #[derive(Drop)]
 pub(crate) struct Cells<'a, A: Arithmetic> {
     pub(crate) scheme: &'a Scheme<A>,

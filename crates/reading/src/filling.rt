@@ -38,6 +38,7 @@ fn is_other(suspects: &[u32], place: usize, l: usize) -> bool
     suspects[l] != 0 && l != place
 }
 
+// The suspects and the row for what is left stay parameters: a struct of both would be made for one call of `fill`.
 impl<'a, A: Arithmetic> Sums<'a, A> {
     /// Writes into a row what is left of the power sums when every suspect but `place` is removed. The answer is the product of
     /// the differences of its point from theirs, times its point.
@@ -51,6 +52,7 @@ impl<'a, A: Arithmetic> Sums<'a, A> {
         left.copy_from_slice(self.sums);
         let x = self.points[place];
         let mut product = self.arithmetic.one();
+        // By place, since whether a suspect is another one is asked of two places.
         for (l, point) in self.points.iter().enumerate() {
             if is_other(suspects, place, l) {
                 remove(self.arithmetic, *point, left);

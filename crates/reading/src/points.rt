@@ -6,7 +6,7 @@ ghost use Rattle.reading.specs.Working.{Points, PowerSums, at};
 
 use arithmetic::{Arithmetic, evaluate, less, write_powers};
 
-/// Power sums of a row of codes, from the first on, and the points of its places: the powers of the step, the power 0 last.
+/// Power sums, fewer than a label has places, and the points of these places: the powers of the step, the power 0 last.
 #[derive(Drop)]
 pub(crate) struct Sums<'a, A: Arithmetic> {
     pub(crate) arithmetic: &'a A,

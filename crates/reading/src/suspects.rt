@@ -50,6 +50,7 @@ impl<'a, A: Arithmetic> Sums<'a, A> {
         for (p, suspect) in suspects.iter_mut().enumerate() {
             let is_suspect = smudges[p] != 0
                 || vanishes(self.arithmetic, multiplier, self.points[p]);
+            // A mark is a number, as the worksheet is one slice of them.
             *suspect = u32::from(is_suspect);
         }
     }

@@ -16,10 +16,10 @@ fn code_of(byte: u8) -> Option<u32>
     ensures { MatchOption result ((c : ℕ) → c < 64 → character c ≢ byte) (λ c. (c < 64) × (character c ≡ byte)) }
 {
     match byte {
-        b'0'..=b'9' => Some((byte - b'0') as u32),
-        b'A'..=b'Z' => Some((byte - b'A') as u32 + 10),
+        b'0'..=b'9' => Some(u32::from(byte - b'0')),
+        b'A'..=b'Z' => Some(u32::from(byte - b'A') + 10),
         b'-' => Some(36),
-        b'a'..=b'z' => Some((byte - b'a') as u32 + 37),
+        b'a'..=b'z' => Some(u32::from(byte - b'a') + 37),
         b'+' => Some(63),
         _ => None,
     }

@@ -20,10 +20,9 @@ fn of_current<R: Reading>(
     ensures zero { Zero worksheet.old → Zero worksheet.new }
 {
     // Each kind of scheme has its arm, here and for doors: a closure cannot be handed in that takes both types.
-    match current {
-        None => Err(Unanswered::Labels(queries::Unanswered::NoQuery)),
-        Some(Laid::OverField(scheme)) => Ok(FoundLabel::new(scheme, reading, worksheet)?),
-        Some(Laid::OverResidues(scheme)) => Ok(FoundLabel::new(scheme, reading, worksheet)?),
+    match current.as_ref().ok_or(queries::Unanswered::NoQuery)? {
+        Laid::OverField(scheme) => Ok(FoundLabel::new(scheme, reading, worksheet)?),
+        Laid::OverResidues(scheme) => Ok(FoundLabel::new(scheme, reading, worksheet)?),
     }
 }
 

@@ -3,13 +3,14 @@ ghost use Rattle.std.specs.Prelude.{ℕ, List, [], ◌∷◌, ◌++◌, MatchOpt
 ghost use Rattle.readings.specs.Pieces.{Holds, Listed, Piece};
 
 use arrayvec::ArrayVec;
+use reading::{Reading, Scan};
 
 /// The number of one piece: that of a numeral, or 4294967295 for `?`.
 fn piece(bytes: &[u8]) -> Option<u32>
     ensures { MatchOption result ((n : ℕ) → Piece bytes.now n → ⊥) (Piece bytes.now) }
 {
     match bytes {
-        b"?" => Some(u32::MAX),
+        b"?" => Some(Scan::SMUDGE),
         _ => text::number(bytes),
     }
 }

@@ -22,6 +22,7 @@ pub fn number(bytes: &[u8]) -> Option<u32>
         return None;
     }
     let mut n = 0u32;
+    // A `try_fold` would be no plainer: its closure has the same calls, each with `?`.
     for b in bytes {
         let digit = char::from(*b).to_digit(10)?;
         n = n.checked_mul(10)?.checked_add(digit)?;

@@ -1,4 +1,5 @@
 // Readings of labels over the field of 11, with four characters of which two are the door's.
+// Worksheets and rows are arrays of stated lengths, some too long or too short; a helper has a parameter for each number expected.
 use arithmetic::BinaryField;
 use label::Scheme;
 use reading::{Reading, Scan, Typed, read};
@@ -47,9 +48,9 @@ fn refuses<R: Reading>(
 ) -> Result<(), Fail> {
     let scheme = scheme()?;
     row.fill(9);
-    let Err(refusal) = read(&scheme, reading, worksheet, row) else {
-        return Err(Fail::new("accepted"));
-    };
+    let refusal = read(&scheme, reading, worksheet, row)
+        .err()
+        .ok_or(Fail::new("accepted"))?;
     assert!(rt; all(worksheet, 0));
     assert!(rt; all(row, 9));
     assert_eq!(rt; refusal.number(), number);
@@ -86,7 +87,6 @@ fn readings_are_refused(rt: HostRuntime) -> Result<(), Fail> {
     refused(&rt, &Scan(&[1, 2, 6, 7, 7]), 14, 0)
 }
 
-// Worksheets and rows are arrays of stated lengths, here too long or too short.
 #[test]
 fn worksheets_and_rows_are_refused(rt: HostRuntime) -> Result<(), Fail> {
     let reading = Typed(b"12x7");

@@ -93,6 +93,7 @@ impl BinaryField {
         Ok(())
     }
 
+    // Four rows, as the iteration takes them.
     /// The inverse of a code that is not zero, in rows for the iteration.
     fn solve(
         &self,

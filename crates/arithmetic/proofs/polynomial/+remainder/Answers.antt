@@ -8,37 +8,39 @@ use Rattle.arithmetic.proofs.polynomial.+remainder.Goals as goal
 
 pub remainder-requires : goal.remainder-requires
 remainder-requires t c =
-    let a = c.in-Some-degree.ensures in
-    let b = c.in-Some.ensures in
-    let e = shl_all c.args.b c.in-Some-degree.m c.in-Some.n b.1 (omega arith) a.0 in
-    let f = cancelled c.args.a c.args.b c.in-Some-degree.m c.in-Some.n a.1 b.1 (omega arith) in
-    let g : bit_xor c.args.a ((c.args.b * 2 ^ (c.in-Some-degree.m - c.in-Some.n)) % 2 ^ 64) < c.args.a = rw e f in
+    let a = c.in-Some.ensures in
+    let b : (c.unwrap-n.result < 64) × Degree c.args.b c.unwrap-n.result = rw c.unwrap-n.ensures at c.degree.ensures in
+    let e = shl_all c.args.b c.in-Some.m c.unwrap-n.result b.1 (omega arith) a.0 in
+    let f = cancelled c.args.a c.args.b c.in-Some.m c.unwrap-n.result a.1 b.1 (omega arith) in
+    let g : bit_xor c.args.a ((c.args.b * 2 ^ (c.in-Some.m - c.unwrap-n.result)) % 2 ^ 64) < c.args.a = rw e f in
     (omega (arith, c.decreases), omega arith)
 
 -- what the word with its top term cancelled leaves, the word leaves
-pub returns-in-Some-degree : goal.returns-in-Some-degree
-returns-in-Some-degree t c =
-    let a = c.in-Some-degree.ensures in
-    let b = c.in-Some.ensures in
-    let k = c.in-Some-degree.m - c.in-Some.n in
-    let e = shl_all c.args.b c.in-Some-degree.m c.in-Some.n b.1 (omega arith) a.0 in
+pub returns-in-Some : goal.returns-in-Some
+returns-in-Some t c =
+    let a = c.in-Some.ensures in
+    let b : (c.unwrap-n.result < 64) × Degree c.args.b c.unwrap-n.result = rw c.unwrap-n.ensures at c.degree.ensures in
+    let k = c.in-Some.m - c.unwrap-n.result in
+    let e = shl_all c.args.b c.in-Some.m c.unwrap-n.result b.1 (omega arith) a.0 in
     let is : c.remainder.result ≡ remainder (bit_xor c.args.a (c.args.b * 2 ^ k)) c.args.b
     = subst (λ (x : ℕ). c.remainder.result ≡ remainder (bit_xor c.args.a x) c.args.b) e c.remainder.ensures in
-    remainder_is c.args.b c.in-Some.n b.1 c.args.a c.remainder.result
+    remainder_is c.args.b c.unwrap-n.result b.1 c.args.a c.remainder.result
     (leaves_step c.args.a c.args.b k c.remainder.result
     (subst (LeavesBy (bit_xor c.args.a (c.args.b * 2 ^ k)) c.args.b) (sym is)
-    (remainder_leaves (bit_xor c.args.a (c.args.b * 2 ^ k)) c.args.b c.in-Some.n b.1)))
+    (remainder_leaves (bit_xor c.args.a (c.args.b * 2 ^ k)) c.args.b c.unwrap-n.result b.1)))
 
 -- a word below b's degree is its own remainder
 own : (a b n : ℕ) → Degree b n → a < 2 ^ n → a ≡ remainder a b
 own a b n h l = remainder_is b n h a a (leaves_self a b n h l)
 
-pub returns-in_default-degree : goal.returns-in_default-degree
-returns-in_default-degree t c =
-    own c.args.a c.args.b c.in-Some.n c.in-Some.ensures.1
-    (lt_of_lt_of_le c.in-Some-degree.ensures.1.1 (pow_mono c.if-m-n.false))
+pub returns-in_default : goal.returns-in_default
+returns-in_default t c =
+    let b : (c.unwrap-n.result < 64) × Degree c.args.b c.unwrap-n.result = rw c.unwrap-n.ensures at c.degree.ensures in
+    own c.args.a c.args.b c.unwrap-n.result b.1
+    (lt_of_lt_of_le c.in-Some.ensures.1.1 (pow_mono c.if-m-n.false))
 
-pub returns-in_default-degree-2 : goal.returns-in_default-degree-2
-returns-in_default-degree-2 t c =
-    let z : c.args.a ≡ 0 = c.in_default-degree.ensures in
-    own c.args.a c.args.b c.in-Some.n c.in-Some.ensures.1 (omega (arith, pow_pos c.in-Some.n))
+pub returns-in_default-2 : goal.returns-in_default-2
+returns-in_default-2 t c =
+    let b : (c.unwrap-n.result < 64) × Degree c.args.b c.unwrap-n.result = rw c.unwrap-n.ensures at c.degree.ensures in
+    let z : c.args.a ≡ 0 = c.in_default.ensures in
+    own c.args.a c.args.b c.unwrap-n.result b.1 (omega (arith, pow_pos c.unwrap-n.result))
