@@ -50,7 +50,7 @@ fn refuses<R: Reading>(
     row.fill(9);
     let refusal = read(&scheme, reading, worksheet, row)
         .err()
-        .ok_or(Fail::new("accepted"))?;
+        .ok_or_else(|| Fail::new("accepted"))?;
     assert!(rt; all(worksheet, 0));
     assert!(rt; all(row, 9));
     assert_eq!(rt; refusal.number(), number);
