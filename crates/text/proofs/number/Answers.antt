@@ -1,6 +1,6 @@
 -- What the proof of `number` leaves to be shown.
 use Rattle.std.proofs.Common.{arith, rules, below_more}
-use Rattle.std.proofs.lemmas.List.{drop_all, drop_more}
+use Rattle.std.proofs.lemmas.List.{drop_more}
 use Rattle.text.proofs.number.Goals as goal
 
 pub loop-b-preserved : goal.loop-b-preserved
@@ -9,6 +9,3 @@ loop-b-preserved c = record {
   rest = search (rules, drop_more);
   digits = below_more _ _ c.loop-b.invariant.digits (grind arith);
 }
-
-pub returns : goal.returns
-returns c = search (rules, drop_all)
