@@ -8,7 +8,7 @@ use Rattle.algebra.specs.Operations.{Ring}
 use Rattle.algebra.specs.Codes.{Closed, coded}
 use Rattle.algebra.specs.Polynomials.{pow, sums}
 use Rattle.algebra.proofs.Sums.{sums_same}
-use Rattle.algebra.specs.Generators.{generator, register}
+use Rattle.algebra.specs.Generators.{register}
 use Rattle.algebra.proofs.Registers.{row-code}
 use Rattle.algebra.proofs.CodedRegisters
 use Rattle.arithmetic.specs.Meaning.{Meaning}
@@ -40,9 +40,6 @@ module _ (m : Meaning) (n k : ℕ) (d : ℕ → ℕ) where
       ∙ cond-true (ltb t (n - k)) _ _ (lt-ltb t (n - k) l)
 
 module _ (m : Meaning) (C : Closed m.size m.codes) where
-  pub generator-codes : m.step < m.size → (j t : ℕ) → generator m.codes m.step j t < m.size
-  generator-codes S j t = CodedRegisters.generator_lt m.size m.codes C m.step j t S
-
   pub register-codes : m.step < m.size → (r k : ℕ) (d : ℕ → ℕ) → ((p : ℕ) → p < k → d p < m.size)
       → (p t : ℕ) → p ≤ k → register m.codes m.step r d p t < m.size
   register-codes S r k d h = CodedRegisters.register_lt m.size m.codes C m.step r k d S h
