@@ -1,3 +1,4 @@
+pub mod Table
 pub mod Sums
 pub mod Steps
 pub mod Runs

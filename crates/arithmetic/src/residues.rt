@@ -1,6 +1,6 @@
 // The residues modulo a number.
-ghost use Rattle.std.specs.Prelude.{◌≡◌, ℕ, ◌<◌, MatchOption, ◌≢◌};
-ghost use Rattle.algebra.specs.Codes.{modulo};
+ghost use Rattle.std.specs.Prelude.{ℕ};
+ghost use Rattle.arithmetic.specs.Answers.{OfInverse};
 ghost use Rattle.arithmetic.specs.Meaning.{Lawful, residues};
 ghost use Rattle.arithmetic.specs.Lawful.{bits_lawful, residues_37_lawful};
 
@@ -22,10 +22,22 @@ pub trait Modulus {
 
     /// They are a field, and the step is not zero.
     ghost field: { Lawful (residues SIZE STEP) };
+
+    /// The inverse of a residue. Refused by 3 where the number is none, then by 4 where it is 0.
+    ///
+    /// Found by search, which takes up to as many products as there are residues; a modulus with a table of them looks it up.
+    fn inverse(a: u32) -> Result<u32, Refusal>
+        ensures { OfInverse (residues SIZE STEP) a result }
+    {
+        check_code(a, Self::SIZE)?;
+        (1..Self::SIZE)
+            .find(|b| (a * b) % Self::SIZE == 1)
+            .ok_or(Refusal::InverseOfZero)
+    }
 }
 
 /// The modulus 2, with step 1.
-#[derive(Clone, Copy)]
+#[derive(Clone, Copy, Eq, PartialEq)]
 pub struct Two;
 
 impl Modulus for Two {
@@ -41,7 +53,7 @@ impl Modulus for Two {
 }
 
 /// The modulus 37, with step 2.
-#[derive(Clone, Copy)]
+#[derive(Clone, Copy, Eq, PartialEq)]
 pub struct ThirtySeven;
 
 impl Modulus for ThirtySeven {
@@ -54,10 +66,26 @@ impl Modulus for ThirtySeven {
     ghost STEP = { 2 };
 
     ghost field = { residues_37_lawful };
+
+    fn inverse(a: u32) -> Result<u32, Refusal> {
+        check_code(a, Self::SIZE)?;
+        if a == 0 {
+            return Err(Refusal::InverseOfZero);
+        }
+        Ok(INVERSES[a as usize])
+    }
 }
 
+// A table, since a search takes longer, the longer the larger the modulus.
+/// The inverse of each residue modulo 37; 0 stands for that of 0.
+const INVERSES: [u32; 37] = [
+    0, 1, 19, 25, 28, 15, 31, 16, 14, 33, 26, 27, 34, 20, 8, 5, 7, 24, 35, 2, 13, 30, 32, 29, 17,
+    3, 10, 11, 4, 23, 21, 6, 22, 9, 12, 18, 36,
+];
+
+// Compared, so that `Bits` and `Residues` may stand in a pattern.
 /// The residues of a modulus: sum and product are taken modulo it.
-#[derive(Clone, Copy)]
+#[derive(Clone, Copy, Eq, PartialEq)]
 pub struct Modulo<M>(pub PhantomData<M>);
 
 /// The arithmetic of two elements: 0 and 1 modulo 2, with step 1.
@@ -71,14 +99,6 @@ pub type Residues = Modulo<ThirtySeven>;
 
 /// The arithmetic of the residues modulo 37.
 pub const Residues: Residues = Modulo(PhantomData);
-
-/// The inverse of a residue; none for 0.
-fn reciprocal<M: Modulus>(a: u32) -> Option<u32>
-    requires { a < M.SIZE }
-    ensures { MatchOption result (a ≡ 0) (λ b. (a ≢ 0) × (b < M.SIZE) × (b ≡ (modulo M.SIZE).inv a)) }
-{
-    (1..M::SIZE).find(|b| (a * b) % M::SIZE == 1)
-}
 
 impl<M: Modulus> Arithmetic for Modulo<M> {
     ghost meaning = { λ _. residues M.SIZE M.STEP };
@@ -119,7 +139,6 @@ impl<M: Modulus> Arithmetic for Modulo<M> {
     }
 
     fn inverse(&self, a: u32) -> Result<u32, Refusal> {
-        check_code(a, M::SIZE)?;
-        reciprocal::<M>(a).ok_or(Refusal::InverseOfZero)
+        M::inverse(a)
     }
 }
