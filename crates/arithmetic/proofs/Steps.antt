@@ -110,13 +110,13 @@ module _ (m : Meaning) (L : Lawful m) where
     abbrev new_multiplier : ℕ → ℕ
     new_multiplier = less o s.big_multiplier (quotient o n s) (gap o n s) s.small_multiplier
 
-    quotient_is : o.prod (get_or b (i - 1) 0) (o.inv (get_or sm (j - 1) 0)) ≡ quotient o n s
+    pub quotient_is : o.prod (get_or b (i - 1) 0) (o.inv (get_or sm (j - 1) 0)) ≡ quotient o n s
     quotient_is =
         ap₂ (λ (x y : ℕ). o.prod x (o.inv y))
         (held.big.inside (i - 1) (omega arith) ∙ ap s.big (sub-one i ∙ ap pred ei))
         (held.small.inside (j - 1) (omega arith) ∙ ap s.small (sub-one j ∙ ap pred ej))
 
-    gap_is : i - j ≡ gap o n s
+    pub gap_is : i - j ≡ gap o n s
     gap_is = ap₂ (λ (x y : ℕ). x - y) ei ej
 
     -- the small remainder has no term from z^j on

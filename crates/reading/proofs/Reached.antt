@@ -79,22 +79,22 @@ module _ (m : Meaning) (n : ℕ) (s : Shown) (worksheet len : ℕ) (cells marks 
   taken : (p : ℕ) → p < n → Taken (s.cell m.size p) (at cells p) (at marks p)
   taken p l = w.opened p (omega (arith, w.length_cells))
 
-  smudges_are : smudges m.size n s ≡ count n (marked marks)
+  pub smudges_are : smudges m.size n s ≡ count n (marked marks)
   smudges_are = count_same n _ _ (λ p l. taken_smudge (s.cell m.size p) (at cells p) (at marks p) (taken p l))
 
-  misread_are : (row : List ℕ) → misread m.size n s row ≡ count n (wrong cells marks row)
+  pub misread_are : (row : List ℕ) → misread m.size n s row ≡ count n (wrong cells marks row)
   misread_are row = count_same n _ _ (λ p l. taken_wrong (s.cell m.size p) (at cells p) (at marks p) (at row p) (taken p l))
 
   -- each place has a cell
-  each_cell : (p : ℕ) → p < n → s.cell m.size p ≡ None → ⊥
+  pub each_cell : (p : ℕ) → p < n → s.cell m.size p ≡ None → ⊥
   each_cell p l none = subst (λ c. Taken c (at cells p) (at marks p)) none (taken p l)
 
   -- a label is within reach of the reading where it is within reach of the rows
-  reach_of_near : (r : ℕ) (row : List ℕ) → Near m r cells marks row → InReach m.size n r s row
+  pub reach_of_near : (r : ℕ) (row : List ℕ) → Near m r cells marks row → InReach m.size n r s row
   reach_of_near r row near =
       omega (arith, smudges_are, misread_are row, subst (λ k. 2 * count k (wrong cells marks row) + count k (marked marks) ≤ r) w.length_cells near.reach)
 
-  near_of_reach : (r : ℕ) (row : List ℕ) → Label m n r row → InReach m.size n r s row → Near m r cells marks row
+  pub near_of_reach : (r : ℕ) (row : List ℕ) → Label m n r row → InReach m.size n r s row → Near m r cells marks row
   near_of_reach r row lab reach = record {
     label = subst (λ k. Label m k r row) (sym w.length_cells) lab;
     reach = subst (λ k. 2 * count k (wrong cells marks row) + count k (marked marks) ≤ r) (sym w.length_cells) (omega (arith, smudges_are, misread_are row, reach));
