@@ -2,6 +2,7 @@
 use Rattle.std.specs.Prelude.{ℕ, List, ◌++◌, codes, decimal}
 use Rattle.arithmetic.specs.Refusals.{number, place}
 use Rattle.text.specs.Refusals.{refused_text}
+use Rattle.text.specs.Rows.{numbers}
 use Rattle.text.specs.Spacing.{spaced}
 use Rattle.field.specs.declared.answer.Answer.{Answer}
 use Rattle.field.specs.declared.answer.Answer.TheVariants.{Opened, Described}
@@ -17,7 +18,7 @@ survey_text s =
 
 abbrev pub element_text : Element → List ℕ
 element_text e =
-    codes "triangular" ++ (spaced e.row.items
+    codes "triangular" ++ (spaced (numbers e.row)
     ++ (codes " inverse " ++ (decimal e.inverse ++ (codes " iterations " ++ decimal e.iterations))))
 
 -- for an answer

@@ -12,7 +12,7 @@ use std::fmt;
 use text::Refused;
 
 /// What is answered to a query.
-#[derive(Drop)]
+#[derive(Clone, Copy)]
 pub enum Answer {
     /// The field opens.
     Opened(Survey),

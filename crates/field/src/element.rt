@@ -7,28 +7,27 @@ ghost use Rattle.field.specs.Elements.{Describes, Triangular};
 ghost use Rattle.field.specs.Texts.{element_text};
 
 use arithmetic::{BinaryField, Refusal};
-use arrayvec::ArrayVec;
 use std::fmt;
-use text::Spaced;
+use text::{Row, Spaced};
 
 /// An element of a field, by its triangular coordinates and its inverse.
-#[derive(Drop)]
+#[derive(Clone, Copy)]
 pub struct Element {
     /// The triangular coordinates, as many as the degree of the field's polynomial.
-    pub row: ArrayVec<u32, 16>,
+    pub row: Row<16>,
     pub inverse: u32,
     /// How many iterations the inverse took.
     pub iterations: u32,
 }
 
 /// The triangular coordinates of a code, as many as the degree. Refused by 3 where the number is no code.
-fn triangular(field: &BinaryField, a: u32) -> Result<ArrayVec<u32, 16>, Refusal>
+fn triangular(field: &BinaryField, a: u32) -> Result<Row<16>, Refusal>
     ensures { MatchResult result (Triangular field.now.polynomial field.now.degree a) (λ e. (2 ^ field.now.degree ≤ a) × Refused e 3) }
 {
-    let mut row = ArrayVec::from([0; 16]);
-    row.truncate(field.degree() as usize);
-    field.triangular(a, row.as_mut_slice())?;
-    Ok(row)
+    let mut row = [0; 16];
+    let places = field.degree() as usize;
+    field.triangular(a, &mut row[..places])?;
+    Ok(Row { row, places })
 }
 
 impl Element {
@@ -51,7 +50,7 @@ impl fmt::Display for Element {
     ghost output = { λ e. Some (element_text e) };
 
     fn fmt<W: fmt::Write>(&self, f: &mut fmt::Formatter<W>) -> fmt::Result {
-        let row = Spaced(self.row.as_slice());
+        let row = Spaced(self.row.numbers());
         let inverse = self.inverse;
         let iterations = self.iterations;
         write!(

@@ -1,4 +1,5 @@
 pub mod Queries
+pub mod Characters
 pub mod Labels
 pub mod Answers
 pub mod Texts

@@ -2,12 +2,14 @@
 #![tactic(auto)]
 
 mod answers;
+mod characters;
 mod laid;
 mod printed;
 mod query;
 mod unanswered;
 
 pub use answers::answer;
+pub use characters::Characters;
 pub use laid::Laid;
 pub use printed::Label;
 pub use query::Query;

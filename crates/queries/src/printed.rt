@@ -5,41 +5,40 @@ ghost use Rattle.queries.specs.Answers.{OfDoor};
 ghost use Rattle.queries.specs.Labels.{CodesOf, TextOf};
 ghost use Rattle.queries.specs.Texts.{label_text};
 
+use crate::characters::Characters;
 use crate::unanswered::Unanswered;
 use arithmetic::Arithmetic;
-use arrayvec::{ArrayString, ArrayVec};
 use label::{Refusal, Scheme};
-use std::{fmt, str};
-use text::Spaced;
+use std::fmt;
+use text::{Row, Spaced};
 
 /// A door's label.
-#[derive(Drop)]
+#[derive(Clone, Copy)]
 pub enum Label {
     /// As text.
-    Text(ArrayString<64>),
+    Text(Characters),
     /// As codes.
-    Codes(ArrayVec<u32, 64>),
+    Codes(Row<64>),
 }
 
 /// The label of a door as text. Refused as printing text into a row of the label's length is.
-fn text_of<A: Arithmetic>(scheme: &Scheme<A>, door: u32) -> Result<ArrayString<64>, Refusal>
+fn text_of<A: Arithmetic>(scheme: &Scheme<A>, door: u32) -> Result<Characters, Refusal>
     ensures { MatchResult result (λ t. (door < scheme.now.doors) × ((A.Arithmetic.meaning scheme.now.arithmetic).size ≤ 64) × TextOf (A.Arithmetic.meaning scheme.now.arithmetic) scheme.now.n scheme.now.k door t) (NotTyped (A.Arithmetic.meaning scheme.now.arithmetic) scheme.now.doors scheme.now.n door scheme.now.n) }
 {
-    let mut row = ArrayVec::from([0; 64]);
-    row.truncate(scheme.length());
-    scheme.print_text(door, row.as_mut_slice())?;
-    let characters = str::from_utf8(row.as_slice()).unwrap();
-    Ok(ArrayString::from(characters).unwrap())
+    let mut row = [0; 64];
+    let places = scheme.length();
+    scheme.print_text(door, &mut row[..places])?;
+    Ok(Characters { row, places })
 }
 
 /// The label of a door as codes. Refused as printing codes into a row of the label's length is.
-fn codes_of<A: Arithmetic>(scheme: &Scheme<A>, door: u32) -> Result<ArrayVec<u32, 64>, Refusal>
+fn codes_of<A: Arithmetic>(scheme: &Scheme<A>, door: u32) -> Result<Row<64>, Refusal>
     ensures { MatchResult result (λ t. (door < scheme.now.doors) × CodesOf (A.Arithmetic.meaning scheme.now.arithmetic) scheme.now.n scheme.now.k door t) (NotPrinted scheme.now.doors scheme.now.n door scheme.now.n) }
 {
-    let mut row = ArrayVec::from([0; 64]);
-    row.truncate(scheme.length());
-    scheme.print_codes(door, row.as_mut_slice())?;
-    Ok(row)
+    let mut row = [0; 64];
+    let places = scheme.length();
+    scheme.print_codes(door, &mut row[..places])?;
+    Ok(Row { row, places })
 }
 
 impl Label {
@@ -65,7 +64,7 @@ impl fmt::Display for Label {
             Label::Text(text) => write!(f, "{text}"),
             Label::Codes(codes) => {
                 // An empty row prints nothing, and is not an error that `?` would give.
-                let Some((first, rest)) = codes.as_slice().split_first() else {
+                let Some((first, rest)) = codes.numbers().split_first() else {
                     return Ok(());
                 };
                 let rest = Spaced(rest);

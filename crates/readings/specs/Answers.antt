@@ -8,6 +8,7 @@ use Rattle.queries.specs.declared.unanswered.Unanswered.{Unanswered as LabelsUna
 use Rattle.queries.specs.declared.unanswered.Unanswered.TheVariants.{NoQuery}
 use Rattle.reading.specs.Answers.{NotRead, Reads, WellFormed}
 use Rattle.reading.specs.Readings.{Shown, scanned, typed}
+use Rattle.text.specs.Rows.{numbers}
 use Rattle.readings.specs.declared.found.FoundLabel.{FoundLabel}
 use Rattle.readings.specs.declared.query.Query.{Query}
 use Rattle.readings.specs.declared.query.Query.TheVariants.{Labels as AboutLabels, Scan, Read}
@@ -18,7 +19,7 @@ use Rattle.readings.specs.declared.unanswered.Unanswered.TheVariants.{Labels, Un
 
 -- a reading is well formed with a worksheet of this length, and t has the one label within its reach, with its door, v and s
 abbrev pub FoundBy : Meaning → ℕ → ℕ → Shown → ℕ → FoundLabel → Type 0
-FoundBy m n k s worksheet t = WellFormed m.size n s worksheet n × Reads m n k s t.label.items t.found
+FoundBy m n k s worksheet t = WellFormed m.size n s worksheet n × Reads m n k s (numbers t.label) t.found
 
 -- to a reading that shows s, with a worksheet of this length: the label within reach with its door, v and s, or why it is not read
 abbrev pub OfReading : Meaning → ℕ → ℕ → Shown → ℕ → Result FoundLabel Unanswered → Type 0
@@ -51,5 +52,5 @@ IsPrinted Of (Err (Unread e)) = ⊥
 abbrev pub Answers : ℕ → Option Laid → Option Query → Result (Option Reply) Unanswered → Option Laid → Type 0
 Answers worksheet s None r t = (t ≡ s) × (r ≡ Err (Labels NoQuery))
 Answers worksheet s (Some (AboutLabels q)) r t = IsPrinted (λ a. LabelsAnswers s (Some q) a t) r
-Answers worksheet s (Some (Scan p)) r t = (t ≡ s) × IsFound (OfCurrentReading s (scanned p.items) worksheet) r
+Answers worksheet s (Some (Scan p)) r t = (t ≡ s) × IsFound (OfCurrentReading s (scanned (numbers p)) worksheet) r
 Answers worksheet s (Some (Read text)) r t = (t ≡ s) × IsFound (OfCurrentReading s (typed text.now) worksheet) r

@@ -1,7 +1,8 @@
 -- The pieces of a scan.
 use Rattle.std.specs.Prelude.{◌≡◌, ℕ, ◌⊎◌, List, [], ◌∷◌, ◌++◌, take}
-use Rattle.arrayvec.specs.ArrayVec.{ArrayVec}
+use Rattle.text.specs.declared.row.Row.{Row}
 use Rattle.text.specs.Numerals.{One}
+use Rattle.text.specs.Rows.{numbers as held}
 
 -- the bytes are the piece n: a numeral of n, or a question mark (the byte 63), which is 4294967295
 abbrev pub Piece : List ℕ → ℕ → Type 0
@@ -15,5 +16,5 @@ Listed bytes (n ∷ (m ∷ numbers)) =
     (left : List ℕ) × (right : List ℕ) × (bytes ≡ left ++ 32 ∷ right) × Piece left n × Listed right (m ∷ numbers)
 
 -- p holds these numbers, or the first 65 where there are more
-abbrev pub Holds : List ℕ → ArrayVec ℕ → Type 0
-Holds numbers p = p.items ≡ take 65 numbers
+abbrev pub Holds : List ℕ → Row 65 → Type 0
+Holds numbers p = held p ≡ take 65 numbers

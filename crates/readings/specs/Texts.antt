@@ -2,6 +2,7 @@
 use Rattle.std.specs.Prelude.{ℕ, List, ◌++◌, codes, decimal}
 use Rattle.reading.specs.Refusals.{number, place}
 use Rattle.text.specs.Refusals.{refused_text}
+use Rattle.text.specs.Rows.{numbers}
 use Rattle.text.specs.Spacing.{spaced}
 use Rattle.queries.specs.Texts.{label_text, unanswered_text as labels_unanswered_text}
 use Rattle.readings.specs.declared.found.FoundLabel.{FoundLabel}
@@ -13,7 +14,7 @@ use Rattle.readings.specs.declared.unanswered.Unanswered.TheVariants.{Labels, Un
 -- the door, v, s and the codes, with one space between
 abbrev pub found_text : FoundLabel → List ℕ
 found_text t =
-    decimal t.found.door ++ (codes " " ++ (decimal t.found.misread ++ (codes " " ++ (decimal t.found.smudges ++ spaced t.label.items))))
+    decimal t.found.door ++ (codes " " ++ (decimal t.found.misread ++ (codes " " ++ (decimal t.found.smudges ++ spaced (numbers t.label)))))
 
 -- for a label that was printed or read
 abbrev pub reply_text : Reply → List ℕ

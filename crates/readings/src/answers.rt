@@ -41,7 +41,7 @@ pub fn answer(
     match query.ok_or(queries::Unanswered::NoQuery)? {
         Query::Labels(query) => Ok(queries::answer(current, Some(query))?.map(Reply::Printed)),
         Query::Scan(pieces) => {
-            let scan = Scan(pieces.as_slice());
+            let scan = Scan(pieces.numbers());
             Ok(Some(Reply::Found(of_current(current, &scan, worksheet)?)))
         }
         Query::Read(text) => {

@@ -6,19 +6,18 @@ ghost use Rattle.readings.specs.Answers.{FoundBy};
 ghost use Rattle.readings.specs.Texts.{found_text};
 
 use arithmetic::Arithmetic;
-use arrayvec::ArrayVec;
 use label::Scheme;
 use reading::{Found, Reading, Refusal};
 use std::fmt;
-use text::Spaced;
+use text::{Row, Spaced};
 
 /// A label that was read.
-#[derive(Drop)]
+#[derive(Clone, Copy)]
 pub struct FoundLabel {
     /// Its door, its v and its s.
     pub found: Found,
     /// Its codes.
-    pub label: ArrayVec<u32, 64>,
+    pub label: Row<64>,
 }
 
 impl FoundLabel {
@@ -32,10 +31,13 @@ impl FoundLabel {
         ensures answers { MatchResult result (FoundBy (A.Arithmetic.meaning scheme.now.arithmetic) scheme.now.n scheme.now.k (R.Reading.shown reading.now) (length worksheet.old)) (NotRead (A.Arithmetic.meaning scheme.now.arithmetic) scheme.now.n scheme.now.k (R.Reading.shown reading.now) (length worksheet.old) scheme.now.n) }
         ensures zero { Zero worksheet.new }
     {
-        let mut label = ArrayVec::from([0; 64]);
-        label.truncate(scheme.length());
-        let found = reading::read(scheme, reading, worksheet, label.as_mut_slice())?;
-        Ok(FoundLabel { found, label })
+        let mut row = [0; 64];
+        let places = scheme.length();
+        let found = reading::read(scheme, reading, worksheet, &mut row[..places])?;
+        Ok(FoundLabel {
+            found,
+            label: Row { row, places },
+        })
     }
 }
 
@@ -49,7 +51,7 @@ impl fmt::Display for FoundLabel {
             misread,
             smudges,
         } = self.found;
-        let codes = Spaced(self.label.as_slice());
+        let codes = Spaced(self.label.numbers());
         write!(f, "{door} {misread} {smudges}{codes}")
     }
 }

@@ -2,15 +2,15 @@
 ghost use Rattle.readings.specs.Queries.{Asks};
 
 use crate::scan::pieces;
-use arrayvec::ArrayVec;
+use text::Row;
 
 /// What a line asks.
-#[derive(Drop)]
+#[derive(Clone, Copy)]
 pub enum Query<'a> {
     /// A query about labels: `binary F n k`, `residue n k` or `door D`.
     Labels(queries::Query),
     /// `scan C C ..`: the scan of these pieces.
-    Scan(ArrayVec<u32, 65>),
+    Scan(Row<65>),
     /// `read TEXT`: the typed entry of the bytes of TEXT.
     Read(&'a [u8]),
 }

@@ -7,7 +7,7 @@ use queries::Label;
 use std::fmt;
 
 /// What is answered to a query.
-#[derive(Drop)]
+#[derive(Clone, Copy)]
 pub enum Reply {
     /// The label of a door.
     Printed(Label),

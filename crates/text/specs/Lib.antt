@@ -3,3 +3,4 @@ pub mod Parts
 pub mod Spacing
 pub mod Refusals
 pub mod Answered
+pub mod Rows

@@ -1,4 +1,5 @@
-// Reading bytes: lines, parts between separators, and decimal numbers; and writing numbers in a row, refusals and answers.
+// Reading bytes: lines, parts between separators, and decimal numbers; writing numbers in a row, refusals and answers; and rows
+// of numbers that can be copied.
 #![tactic(auto)]
 
 ghost use Rattle.std.specs.Prelude.{◌≡◌, ℕ, ◌<◌, length, Some, MatchOption};
@@ -10,6 +11,9 @@ ghost use Rattle.text.specs.Refusals.{refused_text};
 ghost use Rattle.text.specs.Spacing.{spaced};
 ghost use Rattle.std.specs.Iterator.{at_most};
 
+mod row;
+
+pub use row::Row;
 use std::fmt;
 
 /// The number that the bytes write: one to ten decimal digits, and below 2^32. Zeros may lead.
@@ -89,7 +93,7 @@ impl fmt::Display for Refused {
 }
 
 /// What was asked for, or why it is not answered.
-#[derive(Drop)]
+#[derive(Clone, Copy, Drop)]
 pub struct Answered<T, E>(pub Result<T, E>);
 
 impl<T: fmt::Display, E: fmt::Display> fmt::Display for Answered<T, E> {
@@ -97,6 +101,7 @@ impl<T: fmt::Display, E: fmt::Display> fmt::Display for Answered<T, E> {
     ghost output = { λ a. answered_text T.output E.output a.0 };
 
     fn fmt<W: fmt::Write>(&self, f: &mut fmt::Formatter<W>) -> fmt::Result {
+        // A match of a `Result`: the answer and the error have each a `Display` of their own type.
         match &self.0 {
             Ok(answer) => write!(f, "{answer}"),
             Err(unanswered) => write!(f, "{unanswered}"),
