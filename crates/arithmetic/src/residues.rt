@@ -30,9 +30,10 @@ pub trait Modulus {
         ensures { OfInverse (residues SIZE STEP) a result }
     {
         check_code(a, Self::SIZE)?;
-        (1..Self::SIZE)
-            .find(|b| (a * b) % Self::SIZE == 1)
-            .ok_or(Refusal::InverseOfZero)
+        if a == 0 {
+            return Err(Refusal::InverseOfZero);
+        }
+        Ok((1..Self::SIZE).find(|b| (a * b) % Self::SIZE == 1).unwrap())
     }
 }
 
@@ -69,10 +70,10 @@ impl Modulus for ThirtySeven {
 
     fn inverse(a: u32) -> Result<u32, Refusal> {
         check_code(a, Self::SIZE)?;
-        if a == 0 {
-            return Err(Refusal::InverseOfZero);
+        match a {
+            0 => Err(Refusal::InverseOfZero),
+            _ => Ok(INVERSES[a as usize]),
         }
-        Ok(INVERSES[a as usize])
     }
 }
 

@@ -1,12 +1,10 @@
 -- What the proof of `residues::Modulus::inverse` leaves to be shown.
 use Rattle.std.proofs.Common.{rules, tests, eq-zero-or-pos, inl, inr, ◌≡◌, ℕ, ◌*◌, ◌%◌, ◌<◌, ◌≤◌, ◌≢◌, Option, Some, None, MatchOption, refl, sym, ap, ◌∙◌, subst, arith}
 use native.Mathlib.Fin
-use Rattle.std.specs.Option.{ok_or}
+use Rattle.std.specs.Option.{IsSome}
 use Rattle.std.proofs.lemmas.Iterator.{first_from_Range}
 use Rattle.algebra.specs.Operations.{Operations, Ring}
 use Rattle.algebra.specs.Codes.{coded, modulo}
-use Rattle.arithmetic.specs.declared.refusal.Refusal.TheVariants.{InverseOfZero}
-use Rattle.arithmetic.specs.Answers.{OfInverse}
 use Rattle.arithmetic.specs.Meaning.{Lawful, residues}
 use Rattle.arithmetic.proofs.residues.Modulus.inverse.Goals as goal
 
@@ -35,21 +33,32 @@ module _ (n g : ℕ) (L : Lawful (residues n g)) (a : ℕ) (low : a < n) where
     | inr p ↦ p
   ]
 
-  -- the first number whose product with a is 1 is the inverse; there is none where a is 0
-  answers : (r : Option ℕ) → MatchOption r ((k : ℕ) → 1 ≤ k → k < n → (a * k) % n ≢ 1) (λ b. (1 ≤ b) × (b < n) × ((a * b) % n ≡ 1) × ((k : ℕ) → 1 ≤ k → k < b → (a * k) % n ≢ 1))
-      → OfInverse (residues n g) a (ok_or r InverseOfZero)
-  answers None h = elim (eq-zero-or-pos a) [
-    | inl z ↦ ((λ high. absurd (omega (arith, low, high))), (λ h. (z, (refl, refl))))
-    | inr p ↦ let z : a ≢ 0 = omega arith in absurd (h inverse (inverse-positive z) inverse_in (inverse_is z))
-  ]
-  answers (Some b) h =
-      let z : a ≢ 0 = λ e. let k : (0 * b) % n ≡ 1 = rw e at h.2 in omega (arith, least) in
-      (low, z, h.1, ap (λ x. x.0) (unique (coded n (modulo n) L.closed) L.ring (a, low) (b, h.1) (inverse, inverse_in) (Fin.val_path h.2) (Fin.val_path (inverse_is z))))
+  -- where a is not zero, the first number whose product with a is 1 is the inverse, and there is one
+  answers : a ≢ 0 → (r : Option ℕ) → MatchOption r ((k : ℕ) → 1 ≤ k → k < n → (a * k) % n ≢ 1) (λ b. (1 ≤ b) × (b < n) × ((a * b) % n ≡ 1) × ((k : ℕ) → 1 ≤ k → k < b → (a * k) % n ≢ 1))
+      → MatchOption r ⊥ (λ b. (b < n) × (b ≡ inverse))
+  answers z None h = absurd (h inverse (inverse-positive z) inverse_in (inverse_is z))
+  answers z (Some b) h =
+      (h.1, ap (λ x. x.0) (unique (coded n (modulo n) L.closed) L.ring (a, low) (b, h.1) (inverse, inverse_in) (Fin.val_path h.2) (Fin.val_path (inverse_is z))))
+
+is_some : (P : ℕ → Type 0) (r : Option ℕ) → MatchOption r ⊥ P → IsSome r
+is_some P None h = absurd h
+is_some P (Some b) h = refl
+
+pub unwrap-requires : goal.unwrap-requires
+unwrap-requires g c =
+    let n = g.Self.Modulus.SIZE in
+    let m = g.Self.Modulus in
+    let a = c.args.a in
+    let h = first_from_Range _ _ _ c.find.result (λ b. (a * b) % n ≡ 1) (λ b. (a * b) % n ≢ 1) c.find.ensures.ran (λ x q k. search (rules, tests)) (λ x q k. search (rules, tests)) in
+    is_some _ c.find.result (answers n m.STEP m.field a (search rules) c.if-a-eq0.false c.find.result (rw c.SIZE-2.ensures at h))
 
 pub returns : goal.returns
 returns g c =
     let n = g.Self.Modulus.SIZE in
     let m = g.Self.Modulus in
     let a = c.args.a in
+    let low : a < n = search rules in
     let h = first_from_Range _ _ _ c.find.result (λ b. (a * b) % n ≡ 1) (λ b. (a * b) % n ≢ 1) c.find.ensures.ran (λ x q k. search (rules, tests)) (λ x q k. search (rules, tests)) in
-    subst (OfInverse (residues n m.STEP) a) (sym c.ok_or.ensures.value) (answers n m.STEP m.field a (search rules) c.find.result (rw c.SIZE-2.ensures at h))
+    let known = answers n m.STEP m.field a low c.if-a-eq0.false c.find.result (rw c.SIZE-2.ensures at h) in
+    let is = subst (λ o. MatchOption o ⊥ (λ b. (b < n) × (b ≡ (modulo n).inv a))) c.unwrap.ensures known in
+    (low, c.if-a-eq0.false, is.0, is.1)

@@ -11,8 +11,8 @@ inverse_at : (a : ℕ) → a < 37 → get_or INVERSES a 0 ≡ (modulo 37).inv a
 unfolding found
 inverse_at a h = eqb→eq (get_or INVERSES a 0) ((modulo 37).inv a) (at_each (λ k x. eqb x ((modulo 37).inv k)) INVERSES tt a h)
 
-pub returns : goal.returns
-returns c =
+pub returns-in_default : goal.returns-in_default
+returns-in_default c =
     let h : c.args.a < 37 = search rules in
     let e = inverse_at c.args.a h in
-    (h, c.if-a-eq0.false, subst (λ (y : ℕ). y < 37) (sym e) ((Residues.closed 37 (omega arith)).inv_in c.args.a h), e)
+    (h, search rules, subst (λ (y : ℕ). y < 37) (sym e) ((Residues.closed 37 (omega arith)).inv_in c.args.a h), e)
