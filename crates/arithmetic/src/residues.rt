@@ -38,7 +38,7 @@ pub trait Modulus {
 }
 
 /// The modulus 2, with step 1.
-#[derive(Clone, Copy, Eq, PartialEq)]
+#[derive(Clone, Copy)]
 pub struct Two;
 
 impl Modulus for Two {
@@ -54,7 +54,7 @@ impl Modulus for Two {
 }
 
 /// The modulus 37, with step 2.
-#[derive(Clone, Copy, Eq, PartialEq)]
+#[derive(Clone, Copy)]
 pub struct ThirtySeven;
 
 impl Modulus for ThirtySeven {
@@ -84,22 +84,23 @@ const INVERSES: [u32; 37] = [
     3, 10, 11, 4, 23, 21, 6, 22, 9, 12, 18, 36,
 ];
 
-// Compared, so that `Bits` and `Residues` may stand in a pattern.
 /// The residues of a modulus: sum and product are taken modulo it.
-#[derive(Clone, Copy, Eq, PartialEq)]
+#[derive(Clone, Copy)]
 pub struct Modulo<M>(pub PhantomData<M>);
 
+// Structs of their own, not `Modulo<Two>` and `Modulo<ThirtySeven>` by other names: a struct with a type parameter has a field, so
+// that `Bits {}` and `Residues {}` would not be values.
 /// The arithmetic of two elements: 0 and 1 modulo 2, with step 1.
-pub type Bits = Modulo<Two>;
-
-/// The arithmetic of two elements.
-pub const Bits: Bits = Modulo(PhantomData);
+#[derive(Clone, Copy)]
+pub struct Bits;
 
 /// The residues modulo 37, with step 2.
-pub type Residues = Modulo<ThirtySeven>;
+#[derive(Clone, Copy)]
+pub struct Residues;
 
-/// The arithmetic of the residues modulo 37.
-pub const Residues: Residues = Modulo(PhantomData);
+const MODULO_2: Modulo<Two> = Modulo(PhantomData);
+
+const MODULO_37: Modulo<ThirtySeven> = Modulo(PhantomData);
 
 impl<M: Modulus> Arithmetic for Modulo<M> {
     ghost meaning = { λ _. residues M.SIZE M.STEP };
@@ -141,5 +142,83 @@ impl<M: Modulus> Arithmetic for Modulo<M> {
 
     fn inverse(&self, a: u32) -> Result<u32, Refusal> {
         M::inverse(a)
+    }
+}
+
+// This and the next are written out: a macro cannot write an implementation that states a meaning, and one for every modulus
+// would stand beside that of the binary fields, so that an enum of schemes over both gets no proof.
+impl Arithmetic for Bits {
+    ghost meaning = { λ _. residues 2 1 };
+
+    ghost lawful = { λ _. bits_lawful };
+
+    fn size(&self) -> u32 {
+        MODULO_2.size()
+    }
+
+    fn zero(&self) -> u32 {
+        MODULO_2.zero()
+    }
+
+    fn one(&self) -> u32 {
+        MODULO_2.one()
+    }
+
+    fn step(&self) -> u32 {
+        MODULO_2.step()
+    }
+
+    fn sum(&self, a: u32, b: u32) -> Result<u32, Refusal> {
+        MODULO_2.sum(a, b)
+    }
+
+    fn negative(&self, a: u32) -> Result<u32, Refusal> {
+        MODULO_2.negative(a)
+    }
+
+    fn product(&self, a: u32, b: u32) -> Result<u32, Refusal> {
+        MODULO_2.product(a, b)
+    }
+
+    fn inverse(&self, a: u32) -> Result<u32, Refusal> {
+        MODULO_2.inverse(a)
+    }
+}
+
+impl Arithmetic for Residues {
+    ghost meaning = { λ _. residues 37 2 };
+
+    ghost lawful = { λ _. residues_37_lawful };
+
+    fn size(&self) -> u32 {
+        MODULO_37.size()
+    }
+
+    fn zero(&self) -> u32 {
+        MODULO_37.zero()
+    }
+
+    fn one(&self) -> u32 {
+        MODULO_37.one()
+    }
+
+    fn step(&self) -> u32 {
+        MODULO_37.step()
+    }
+
+    fn sum(&self, a: u32, b: u32) -> Result<u32, Refusal> {
+        MODULO_37.sum(a, b)
+    }
+
+    fn negative(&self, a: u32) -> Result<u32, Refusal> {
+        MODULO_37.negative(a)
+    }
+
+    fn product(&self, a: u32, b: u32) -> Result<u32, Refusal> {
+        MODULO_37.product(a, b)
+    }
+
+    fn inverse(&self, a: u32) -> Result<u32, Refusal> {
+        MODULO_37.inverse(a)
     }
 }
