@@ -98,8 +98,10 @@ pub struct Bits;
 #[derive(Clone, Copy)]
 pub struct Residues;
 
+/// What `Bits` calls.
 const MODULO_2: Modulo<Two> = Modulo(PhantomData);
 
+/// What `Residues` calls.
 const MODULO_37: Modulo<ThirtySeven> = Modulo(PhantomData);
 
 impl<M: Modulus> Arithmetic for Modulo<M> {
@@ -145,8 +147,8 @@ impl<M: Modulus> Arithmetic for Modulo<M> {
     }
 }
 
-// This and the next are written out: a macro cannot write an implementation that states a meaning, and one for every modulus
-// would stand beside that of the binary fields, so that an enum of schemes over both gets no proof.
+// This and the next are written out: a macro cannot write an implementation that states a meaning. One for every modulus would stand
+// beside that of the binary fields, and the check finds no proof of code that makes an enum of schemes over both.
 impl Arithmetic for Bits {
     ghost meaning = { λ _. residues 2 1 };
 
